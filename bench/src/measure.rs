@@ -1,0 +1,118 @@
+//! Costs of one setting over all strings.
+
+use crate::clock::seconds;
+use reference::settings::Settings;
+use std::hint::black_box;
+use std::time::{Duration, Instant};
+
+extern "C" {
+    fn rcds_tree(
+        w: u64,
+        p: u64,
+        levels: u64,
+        nominal: u64,
+        string: *const u8,
+        string_len: usize,
+        nodes: *mut u8,
+        nodes_len: usize,
+    ) -> u64;
+}
+
+/// What one string cost under one setting.
+pub struct Cost {
+    /// Bytes of the string.
+    pub length: usize,
+    /// The time of one call in FNV-1a passes over the string.
+    pub passes: f64,
+    /// The reference's time divided by the library's, where it was measured.
+    pub reference: Option<f64>,
+    /// Whether question 8 refused the tree.
+    pub refused: bool,
+}
+
+/// What all strings cost under one setting, by content and then by size.
+pub struct Row {
+    pub settings: Settings,
+    pub costs: Vec<Vec<Cost>>,
+}
+
+/// One plain pass of FNV-1a: the least that any hashing of the blocks can cost.
+fn fnv_pass(bytes: &[u8]) -> u64 {
+    bytes
+        .iter()
+        .fold(14_695_981_039_346_656_037, |value, &byte| {
+            (value ^ u64::from(byte)).wrapping_mul(1_099_511_628_211)
+        })
+}
+
+/// The least times of one call and of one pass over the bytes, taken in turn: at least 7 rounds,
+/// and rounds for 40 ms. Short strings are repeated, so that the clock's own time does not count.
+fn call_and_pass(bytes: &[u8], mut call: impl FnMut()) -> (f64, f64) {
+    let repetitions = (65_536 / bytes.len()).max(1);
+    let begun = Instant::now();
+    let (mut least_call, mut least_pass) = (f64::INFINITY, f64::INFINITY);
+    let mut rounds = 0;
+    while rounds < 7 || begun.elapsed() < Duration::from_millis(40) {
+        least_call = least_call.min(seconds(repetitions, &mut call));
+        let pass = || {
+            black_box(fnv_pass(black_box(bytes)));
+        };
+        least_pass = least_pass.min(seconds(repetitions, pass));
+        rounds += 1;
+    }
+    (least_call, least_pass)
+}
+
+/// The call, on slices.
+fn tree(settings: &Settings, string: &[u8], nodes: &mut [u8]) -> u64 {
+    // Both slices are there in full, and they do not overlap.
+    unsafe {
+        rcds_tree(
+            settings.window,
+            settings.fan_out,
+            settings.levels,
+            settings.nominal,
+            string.as_ptr(),
+            string.len(),
+            nodes.as_mut_ptr(),
+            nodes.len(),
+        )
+    }
+}
+
+/// Measures one setting. The reference is run once over each of the longest strings.
+pub fn row(settings: &Settings, strings: &[Vec<Vec<u8>>]) -> Row {
+    let costs = |sizes: &Vec<Vec<u8>>| {
+        let longest = sizes.len() - 1;
+        let cost = |(k, string): (usize, &Vec<u8>)| cost(settings, string, k == longest);
+        sizes.iter().enumerate().map(cost).collect()
+    };
+    Row {
+        settings: *settings,
+        costs: strings.iter().map(costs).collect(),
+    }
+}
+
+fn cost(settings: &Settings, string: &[u8], with_reference: bool) -> Cost {
+    let mut nodes = vec![0; 65_536];
+    let mut answer = 0;
+    let (call, pass) = call_and_pass(string, || {
+        answer = black_box(tree(settings, black_box(string), &mut nodes));
+    });
+    let reference = with_reference.then(|| {
+        let mut expected = vec![0; 65_536];
+        let mut expected_answer = 0;
+        let slower = seconds(1, || {
+            expected_answer = reference::rcds::rcds_tree(settings, string, &mut expected);
+        });
+        let equal = answer == expected_answer && nodes == expected;
+        assert!(equal, "wrong tree: {settings:?}");
+        slower / call
+    });
+    Cost {
+        length: string.len(),
+        passes: call / pass,
+        reference,
+        refused: answer == 8,
+    }
+}

@@ -1,0 +1,174 @@
+//! The settings that are measured, and what is printed of them.
+
+use crate::measure::{Cost, Row};
+use crate::strings::{CONTENTS, SIZES};
+use reference::settings::Settings;
+
+const ZEROS: usize = 0;
+const RANDOM: usize = 1;
+
+/// One level with h from 1 to 32,768; four levels with p = 2 and with p = 8, the first h from 8 to
+/// 32,768 and the last from 1 to 4,096; the shortest and the longest window.
+pub fn settings() -> Vec<Settings> {
+    let with = |window, fan_out, levels, nominal| Settings {
+        window,
+        fan_out,
+        levels,
+        nominal,
+    };
+    let mut settings = Vec::new();
+    for h in [1, 4, 16, 64, 256, 1_024, 4_096, 8_192, 16_384, 32_768] {
+        settings.push(with(12, 2, 1, 2 * h));
+    }
+    for window in [12, 2] {
+        for nominal in [16, 64, 256, 1_024, 4_096, 16_384, 65_536] {
+            settings.push(with(window, 2, 4, nominal));
+        }
+        for nominal in [4_096, 16_384, 65_536] {
+            settings.push(with(window, 8, 4, nominal));
+        }
+    }
+    settings
+}
+
+fn name(settings: &Settings) -> String {
+    let Settings {
+        window,
+        fan_out,
+        levels,
+        nominal,
+    } = settings;
+    format!("{window} {fan_out} {levels} {nominal}")
+}
+
+fn distances(settings: &Settings) -> String {
+    let distance = |level| settings.rule(level).distance.to_string();
+    (1..=settings.levels)
+        .map(distance)
+        .collect::<Vec<_>>()
+        .join(" ")
+}
+
+/// The table: a row for each setting, a column for each string.
+pub fn print(rows: &[Row]) {
+    println!(
+        "Time of one call in FNV-1a passes over the same bytes, and how many times longer the"
+    );
+    println!("reference takes over 64 KiB. A star: refused by question 8.");
+    println!();
+    let mut heads = vec!["w p L M".to_string(), "h of each level".to_string()];
+    let mut sides = vec!["---".to_string(); 2];
+    for (content, _) in CONTENTS {
+        heads.extend(SIZES.iter().map(|size| format!("{content} {size}")));
+        sides.extend(SIZES.iter().map(|_| "---:".to_string()));
+    }
+    heads.extend(
+        CONTENTS
+            .iter()
+            .map(|(content, _)| format!("reference, {content}")),
+    );
+    sides.extend(CONTENTS.iter().map(|_| "---:".to_string()));
+    println!("| {} |", heads.join(" | "));
+    println!("|{}|", sides.join("|"));
+    for row in rows {
+        let mut cells = vec![name(&row.settings), distances(&row.settings)];
+        cells.extend(row.costs.iter().flatten().map(passes));
+        let reference = row.costs.iter().flatten().filter_map(|cost| cost.reference);
+        cells.extend(reference.map(|ratio| format!("{ratio:.1}")));
+        println!("| {} |", cells.join(" | "));
+    }
+    println!();
+}
+
+fn passes(cost: &Cost) -> String {
+    let star = if cost.refused { "*" } else { "" };
+    format!("{:.1}{star}", cost.passes)
+}
+
+/// A figure, and where it was found.
+type Figure = (f64, String);
+
+fn worst(figures: impl Iterator<Item = Figure>) -> Figure {
+    let larger = |a: Figure, b: Figure| if b.0 > a.0 { b } else { a };
+    figures.reduce(larger).expect("something was measured")
+}
+
+/// How much longer a call takes that costs `longer` passes over four times the bytes than one that
+/// costs `shorter` passes.
+fn times(longer: f64, shorter: f64) -> f64 {
+    4.0 * longer / shorter
+}
+
+/// How much longer the dearest call of each length takes than the dearest of a quarter of it, over
+/// all settings with this many levels and all strings.
+fn growth_of_dearest(rows: &[Row], levels: u64) -> Vec<Figure> {
+    let rows = || rows.iter().filter(|row| row.settings.levels == levels);
+    let dearest = |size: usize| {
+        let passes = rows().flat_map(|row| row.costs.iter().map(move |costs| costs[size].passes));
+        passes.fold(0.0, f64::max)
+    };
+    let figure = |size: usize| {
+        let place = format!("L = {levels}, {} and {} KiB", SIZES[size - 1], SIZES[size]);
+        (times(dearest(size), dearest(size - 1)), place)
+    };
+    (1..SIZES.len()).map(figure).collect()
+}
+
+/// How much longer each string takes than the one of a quarter of its length, with the same
+/// settings, where the shorter one is wanted.
+fn growth(row: &Row, wanted: fn(&Settings, usize) -> bool) -> Vec<Figure> {
+    let mut figures = Vec::new();
+    for (costs, (content, _)) in row.costs.iter().zip(CONTENTS) {
+        for pair in costs.windows(2) {
+            if wanted(&row.settings, pair[0].length) {
+                let longer = pair[1].length / 1_024;
+                let place = format!("{}, {content} of {longer} KiB", name(&row.settings));
+                figures.push((times(pair[1].passes, pair[0].passes), place));
+            }
+        }
+    }
+    figures
+}
+
+/// Whether a string of this length can have a cut at level 1. Else it is only hashed there.
+fn may_be_cut(settings: &Settings, length: usize) -> bool {
+    let rule = settings.rule(1);
+    length >= 2 * rule.distance + rule.window
+}
+
+fn zeros_to_random(row: &Row) -> Vec<Figure> {
+    let pairs = row.costs[ZEROS].iter().zip(&row.costs[RANDOM]);
+    let figure = |(zeros, random): (&Cost, &Cost)| {
+        let place = format!("{}, {} KiB", name(&row.settings), zeros.length / 1_024);
+        (zeros.passes / random.passes, place)
+    };
+    pairs.map(figure).collect()
+}
+
+fn longest(row: &Row) -> Vec<Figure> {
+    let figure = |(costs, (content, _)): (&Vec<Cost>, (&str, u64))| {
+        let cost = costs.last().expect("a content has strings");
+        (cost.passes, format!("{}, {content}", name(&row.settings)))
+    };
+    row.costs.iter().zip(CONTENTS).map(figure).collect()
+}
+
+/// The three sentences.
+pub fn print_worst(rows: &[Row]) {
+    let (most, place) = worst([1, 4].iter().flat_map(|&l| growth_of_dearest(rows, l)));
+    let (cut, cut_place) = worst(rows.iter().flat_map(|row| growth(row, may_be_cut)));
+    let (any, any_place) = worst(rows.iter().flat_map(|row| growth(row, |_, _| true)));
+    println!(
+        "Four times the bytes cost at most {most:.1} times the time, comparing the dearest calls \
+         of each length ({place}); with the same settings at most {cut:.1} times where the shorter \
+         string is long enough for a cut at level 1 ({cut_place}), and {any:.1} times where it may \
+         be too short for one and is only hashed there ({any_place})."
+    );
+    let (most, place) = worst(rows.iter().flat_map(zeros_to_random));
+    println!("Zeros cost at most {most:.1} times random bytes ({place}).");
+    let four = rows.iter().filter(|row| row.settings.levels == 4);
+    let (most, place) = worst(four.flat_map(longest));
+    println!(
+        "The dearest setting takes at most {most:.1} FNV-1a passes at 64 KiB with L = 4 ({place})."
+    );
+}

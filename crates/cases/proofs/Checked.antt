@@ -1,0 +1,23 @@
+-- The table of starred cases, checked by computing both sides of each.
+use mathlib.Core.Bool.{Bool, true, false, _&&_}
+use mathlib.Core.List.{List, [], _∷_}
+use Prim.Native.Nat.{ℕ}
+use lib.Dec.{T, eqb}
+use Rattle.partition.specs.Cuts.{numberFrom, windowAt, valueAt, lowest, candidate, consIf, passing, spaced, cutsOf}
+use Rattle.partition.specs.Blocks.{blocksFrom, blocksOf}
+use Rattle.tree.specs.Tree.{childrenOf, inTurn, treeOf, nodesOf}
+use Rattle.cases.specs.Cases.{Case, valuesFrom, extents, cases}
+
+unfoldable pub same : List ℕ → List ℕ → Bool
+same [] [] = true
+same [] (y ∷ ys) = false
+same (x ∷ xs) [] = false
+same (x ∷ xs) (y ∷ ys) = eqb x y && same xs ys
+
+unfoldable pub all : List Case → Bool
+all [] = true
+all (c ∷ cs) = same (c .got) (c .want) && all cs
+
+pub checked : T (all cases)
+unfolding all same cases valuesFrom extents numberFrom windowAt valueAt lowest candidate consIf passing spaced cutsOf blocksFrom blocksOf childrenOf inTurn treeOf nodesOf
+checked = tt

@@ -1,0 +1,2 @@
+-- The theorem on the table of cases.
+pub mod Checked

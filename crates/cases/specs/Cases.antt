@@ -1,0 +1,50 @@
+-- Document 01, 'Checked by hand': the cases with a star, as entries of one table. Where nothing else is said they are
+-- "With w=2, p=2, L=1, M=2 (h=1, s=4)".
+use mathlib.Core.List.{List, [], _∷_}
+use Prim.Native.Nat.{ℕ, zero, suc}
+use lib.ListN.{length}
+use Rattle.partition.specs.Cuts.{windowAt, valueAt, cutsOf}
+use Rattle.tree.specs.declared.Settings.{Settings}
+use Rattle.tree.specs.Tree.{Node, nodesOf}
+
+-- What a definition gives, and what the document says.
+pub record Case : Type 0 where
+  pub got : List ℕ
+  pub want : List ℕ
+
+abbrev case : List ℕ → List ℕ → Case
+case got want = record { got = got; want = want }
+
+-- The window values at so many positions from i on.
+unfoldable pub valuesFrom : ℕ → ℕ → List ℕ → List ℕ
+valuesFrom zero i bytes = []
+valuesFrom (suc k) i bytes = valueAt 2 4 bytes i ∷ valuesFrom k (suc i) bytes
+
+-- Level, start and length of each node, one after the other.
+unfoldable pub extents : List Node → List ℕ
+extents [] = []
+extents (n ∷ ns) = n .level ∷ n .start ∷ length (n .bytes) ∷ extents ns
+
+abbrev settings : Settings
+settings = record { window = 2; «fan_out» = 2; levels = 1; nominal = 2; width = 64 }
+
+abbrev sixBytes : List ℕ
+sixBytes = 0 ∷ 3 ∷ 0 ∷ 0 ∷ 1 ∷ 0 ∷ []
+
+unfoldable pub cases : List Case
+cases =
+    -- "01 02 has value 3; ff ff has value 1."
+    case (valuesFrom 1 0 (1 ∷ 2 ∷ [])) (3 ∷ [])
+    ∷ case (valuesFrom 1 0 (255 ∷ 255 ∷ [])) (1 ∷ [])
+    -- "w=3, before s: 01 00 00 gives 528."
+    ∷ case (windowAt 3 (1 ∷ 0 ∷ 0 ∷ []) 0 ∷ []) (528 ∷ [])
+    -- "00 03 00 00 01 00 has values 3 3 0 1 1, one cut at 2."
+    ∷ case (valuesFrom 5 0 sixBytes) (3 ∷ 3 ∷ 0 ∷ 1 ∷ 1 ∷ [])
+    ∷ case (cutsOf 2 1 4 sixBytes) (2 ∷ [])
+    -- "five bytes 07: cuts 1 and 2." "Four: cut 1." "Three: none."
+    ∷ case (cutsOf 2 1 4 (7 ∷ 7 ∷ 7 ∷ 7 ∷ 7 ∷ [])) (1 ∷ 2 ∷ [])
+    ∷ case (cutsOf 2 1 4 (7 ∷ 7 ∷ 7 ∷ 7 ∷ [])) (1 ∷ [])
+    ∷ case (cutsOf 2 1 4 (7 ∷ 7 ∷ 7 ∷ [])) []
+    -- "Empty: one empty block per level."
+    ∷ case (extents (nodesOf settings [])) (0 ∷ 0 ∷ 0 ∷ 1 ∷ 0 ∷ 0 ∷ [])
+    ∷ []

@@ -1,0 +1,2 @@
+-- Laws of FNV-1a and block ids.
+pub mod Fnv

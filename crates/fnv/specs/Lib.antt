@@ -1,0 +1,2 @@
+-- FNV-1a and block ids.
+pub mod Fnv

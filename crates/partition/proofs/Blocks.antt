@@ -1,0 +1,52 @@
+-- The blocks between cuts: joined again they are the bytes, there is one more of them than cuts, and each is a part of the bytes.
+use mathlib.Core.List.{List, [], _∷_, _++_, append-nil, flatten}
+use mathlib.Core.Path.{_≡_, refl, sym, ap, _∙_}
+use Prim.Native.Nat.{ℕ, zero, suc, _+_, _-_, _≤_}
+use native.Mathlib.Nat.{add-zero}
+use native.Mathlib.Omega.{arith}
+use lib.ListN.{length, getD, take, drop, length-drop, take-append-drop}
+use lib.Seq.{drop-drop, take-all}
+use Rattle.partition.specs.Blocks.{blocksFrom, blocksOf}
+use Rattle.partition.specs.Cuts.{cutsOf}
+use Rattle.partition.specs.Spread.{Spread, none, cut}
+use Rattle.partition.proofs.Placed.{cuts-rise, cuts-few}
+
+joined : {from to : ℕ} {cs : List ℕ} (bytes : List ℕ) → Spread 0 from cs to → flatten (blocksFrom from cs bytes) ≡ drop from bytes
+unfolding flatten blocksFrom
+joined {from} bytes none = append-nil (drop from bytes)
+joined {from} bytes (cut {c = c} low high rest) =
+    let e : from + (c - from) ≡ c = omega arith in
+    ap (λ (xs : List ℕ). take (c - from) (drop from bytes) ++ xs)
+    ((rw add-zero at (joined bytes rest))
+    ∙ sym (drop-drop (c - from) from bytes ∙ ap (λ (n : ℕ). drop n bytes) e))
+    ∙ take-append-drop (c - from) (drop from bytes)
+
+counted : (from : ℕ) (cs bytes : List ℕ) → length (blocksFrom from cs bytes) ≡ suc (length cs)
+unfolding blocksFrom
+counted from [] bytes = refl
+counted from (c ∷ cs) bytes = ap suc (counted c cs bytes)
+
+module _ (w h s : ℕ) (bytes : List ℕ) where
+  pub blocks-join : flatten (blocksOf w h s bytes) ≡ bytes
+  unfolding blocksOf
+  blocks-join = joined bytes (cuts-rise w h s bytes)
+
+  pub blocks-count : length (blocksOf w h s bytes) ≡ suc (length (cutsOf w h s bytes))
+  unfolding blocksOf
+  blocks-count = counted 0 (cutsOf w h s bytes) bytes
+
+  pub blocks-some : 1 ≤ length (blocksOf w h s bytes)
+  blocks-some = omega (arith, blocks-count)
+
+  pub blocks-few : length (blocksOf w h s bytes) ≤ 32
+  blocks-few = omega (arith, blocks-count, cuts-few w h s bytes)
+
+-- Block number k is what lies between its start and its end.
+pub block-at : (from : ℕ) (cs bytes : List ℕ) (k : ℕ) → k ≤ length cs
+    → getD (blocksFrom from cs bytes) k []
+    ≡ take (getD (cs ++ (length bytes ∷ [])) k 0 - getD (from ∷ cs) k 0) (drop (getD (from ∷ cs) k 0) bytes)
+unfolding blocksFrom
+block-at from [] bytes zero l = sym (take-all (length bytes - from) (drop from bytes) (simp length-drop (omega arith)))
+block-at from [] bytes (suc k) l = absurd (omega arith)
+block-at from (c ∷ cs) bytes zero l = refl
+block-at from (c ∷ cs) bytes (suc k) l = block-at c cs bytes k (omega arith)

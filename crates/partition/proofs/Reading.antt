@@ -1,0 +1,64 @@
+-- A window's number, read byte by byte with the remainder taken at each step: taking it early changes nothing modulo 65,521.
+use mathlib.Core.List.{List, [], _∷_}
+use mathlib.Core.Path.{_≡_, sym, ap, _∙_}
+use Prim.Native.Nat.{ℕ, suc, _+_, _*_, _-_, _/_, _%_, _≤_, _<_, min}
+use native.Mathlib.Nat.{mod-mod, mod-le, mod-eq-of-lt, zero-mod, mul-add-mod-self-right}
+use native.Mathlib.Decide.{decLe}
+use native.Mathlib.Numerals.{add-one}
+use native.Mathlib.Omega.{arith}
+use lib.ListN.{length, getD, take, drop, length-drop, drop-of-length-le}
+use lib.Seq.{drop-cons, take-nil, take-all}
+use Rattle.partition.specs.Cuts.{numberFrom, windowAt, valueAt}
+
+step : (x b : ℕ) → (x % 65521 * 257 + b) % 65521 ≡ (x * 257 + b) % 65521
+step x b =
+    let whole : x * 257 + b ≡ x / 65521 * 257 * 65521 + (x % 65521 * 257 + b) = omega arith in
+    sym (ap (λ (y : ℕ). y % 65521) whole ∙ mul-add-mod-self-right (x / 65521 * 257) 65521 (x % 65521 * 257 + b))
+
+early : (x : ℕ) (bs : List ℕ) → numberFrom (x % 65521) bs % 65521 ≡ numberFrom x bs % 65521
+unfolding numberFrom
+early x [] = mod-mod x 65521
+early x (b ∷ bs) =
+    sym (early (x % 65521 * 257 + b) bs)
+    ∙ ap (λ (y : ℕ). numberFrom y bs % 65521) (step x b)
+    ∙ early (x * 257 + b) bs
+
+-- One byte of the bytes from j up to `to`, and then the others.
+pub read-one : (x : ℕ) (bytes : List ℕ) (j to : ℕ) → j < to → to ≤ length bytes
+    → numberFrom x (take (to - j) (drop j bytes)) % 65521
+    ≡ numberFrom ((x * 257 + getD bytes j 0) % 65521) (take (to - (j + 1)) (drop (j + 1) bytes)) % 65521
+unfolding numberFrom
+read-one x bytes j to h k =
+    let e : to - j ≡ suc (to - (j + 1)) = omega arith in
+    let l : j < length bytes = omega arith in
+    rw (e, drop-cons bytes j 0, ← add-one j) (sym (early (x * 257 + getD bytes j 0) (take (to - (j + 1)) (drop (j + 1) bytes))))
+
+-- No byte is left.
+pub read-none : (x : ℕ) (bytes : List ℕ) (j to : ℕ) → to ≤ j → x < 65521 → numberFrom x (take (to - j) (drop j bytes)) % 65521 ≡ x
+unfolding numberFrom
+read-none x bytes j to h k =
+    let e : to - j ≡ 0 = omega arith in
+    rw e (mod-eq-of-lt k)
+
+-- A value is a remainder of 65,521.
+pub value-small : (w s : ℕ) (bytes : List ℕ) (i : ℕ) → valueAt w s bytes i < 65521
+unfolding valueAt windowAt
+value-small w s bytes i = omega (arith, mod-le (windowAt w bytes i) s)
+
+-- Past the end of the bytes there is nothing to read.
+pub value-past : (w s : ℕ) (bytes : List ℕ) (i : ℕ) → length bytes ≤ i → valueAt w s bytes i ≡ 0
+unfolding valueAt windowAt numberFrom
+value-past w s bytes i h = rw (drop-of-length-le bytes {i = i} h, take-nil w) (zero-mod s)
+
+-- A window that would pass the end of the bytes has fewer bytes.
+pub window-within : (w : ℕ) (bytes : List ℕ) (i : ℕ) → windowAt (min (i + w) (length bytes) - i) bytes i ≡ windowAt w bytes i
+unfolding windowAt
+window-within w bytes i = ap (λ (part : List ℕ). numberFrom 0 part % 65521) (same (decLe (i + w) (length bytes)))
+  where
+    same : Dec (i + w ≤ length bytes) → take (min (i + w) (length bytes) - i) (drop i bytes) ≡ take w (drop i bytes)
+    same (yes h) =
+        let e : min (i + w) (length bytes) - i ≡ w = omega arith in
+        rw e
+    same (no h) =
+        take-all (min (i + w) (length bytes) - i) (drop i bytes) (simp length-drop (omega arith))
+        ∙ sym (take-all w (drop i bytes) (simp length-drop (omega arith)))

@@ -1,0 +1,6 @@
+-- The definitions: cuts and blocks, what is answered, and how cuts lie.
+pub mod Cuts
+pub mod Blocks
+pub mod Found
+pub mod Scans
+pub mod Spread

@@ -1,0 +1,2 @@
+-- What the calls from C mean.
+pub mod Calls

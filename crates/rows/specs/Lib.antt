@@ -1,0 +1,2 @@
+-- Lent bytes as rows of 64-bit numbers.
+pub mod Rows

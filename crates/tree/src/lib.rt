@@ -1,0 +1,87 @@
+// A string's tree of blocks: the settings and their questions, the node table that the tree is written to, and reading it.
+mod cut;
+mod entry;
+mod level;
+
+ghost use mathlib.Core.Path.{_≡_};
+ghost use Rattle.tree.specs.Questions.{refusal};
+ghost use Rattle.tree.specs.Table.{Tabled, idAt, levelAt, sizeAt, startAt};
+
+// Document 01's settings: window w, fan-out p, levels L, nominal length M, sketch width q.
+pub struct Settings {
+    pub window: u64,
+    pub fan_out: u64,
+    pub levels: u64,
+    pub nominal: u64,
+    pub width: u64,
+}
+
+// Questions 1 to 6, of settings and of a string's length: the number of the first that fails, or 0.
+pub fn question(settings: Settings, size: usize) -> u64
+    ensures { λ r. ⌜ r ≡ refusal settings size ⌝ }
+{
+    let first = level::shape_question(settings.window, settings.fan_out, settings.levels);
+    if first != 0 {
+        return first;
+    }
+    let least = level::power(settings.fan_out, settings.levels);
+    level::size_question(least, settings.nominal, settings.width, size)
+}
+
+// Cuts a string into its tree of blocks and writes the tree to the node table. Asked are 1 to 6, 7 of the node table, and 8:
+// the answer is the number of the first that fails, or 2^32 and the number of nodes. A no at 1 to 7 leaves the table as it
+// is, at 8 the table is all zero, and after a yes it is zero past the last node.
+pub fn cut_string(settings: Settings, string: &[u8], nodes: &mut [u8]) -> u64
+    ensures { λ r. ⌜ Tabled settings (now (string .entry)) (now (nodes .entry)) (now (nodes .exit)) r ⌝ }
+{
+    let refused = question(settings, string.len());
+    if refused != 0 {
+        return refused;
+    }
+    if nodes.len() < 65536 {
+        return 7;
+    }
+    let used = cut::cut_node(
+        settings,
+        settings.levels,
+        0,
+        0,
+        string,
+        &mut nodes[..65536],
+        0,
+    );
+    if 4096 < used {
+        rows::clear(nodes, 0);
+        return 8;
+    }
+    rows::clear(nodes, used * 16);
+    4294967296 + used as u64
+}
+
+// The id of entry k of a node table.
+pub fn node_id(nodes: &[u8], k: usize) -> u64
+    ensures { λ r. ⌜ r ≡ idAt (now (nodes .entry)) k ⌝ }
+{
+    entry::first_row(nodes, k)
+}
+
+// The level of entry k of a node table.
+pub fn node_level(nodes: &[u8], k: usize) -> u64
+    ensures { λ r. ⌜ r ≡ levelAt (now (nodes .entry)) k ⌝ }
+{
+    entry::second_row(nodes, k) % 8
+}
+
+// How many bytes the node of entry k of a node table has.
+pub fn node_length(nodes: &[u8], k: usize) -> u64
+    ensures { λ r. ⌜ r ≡ sizeAt (now (nodes .entry)) k ⌝ }
+{
+    entry::second_row(nodes, k) / 8 % 131072
+}
+
+// Where the node of entry k of a node table starts in the string.
+pub fn node_start(nodes: &[u8], k: usize) -> u64
+    ensures { λ r. ⌜ r ≡ startAt (now (nodes .entry)) k ⌝ }
+{
+    entry::second_row(nodes, k) / 8 / 131072 % 131072
+}

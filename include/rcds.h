@@ -1,0 +1,150 @@
+/*
+ * rcds.h - reconciliation of byte strings by content-dependent recursive
+ * partition (RCDS): the calls for firmware in C.
+ *
+ * A string is cut into blocks where its own bytes say so, each block is cut
+ * again, level by level, and the blocks form a tree. Equal stretches of two
+ * strings are cut into equal blocks, which have equal ids.
+ *
+ * What holds for every call:
+ *
+ * - It allocates nothing, keeps nothing between calls, and needs no function
+ *   of the C library but memcpy and memset.
+ * - It reads and writes only the pieces that it is lent, ends for any content
+ *   of them, and relies on nothing that its caller has checked.
+ * - The caller answers for two things: each piece is there in full, with as
+ *   many bytes as the length says; and no piece lent for writing overlaps
+ *   another piece. A piece may stand at any address, aligned or not. The
+ *   pointer of a piece without bytes is not read, but must not be null.
+ *
+ * Answers. A call answers a uint64_t. From 1 to 2^32 - 1 it is the number of
+ * the first question that had a no, and the call is refused. Otherwise the
+ * call is accepted, and the low 32 bits are a count. RCDS_ACCEPTED and
+ * RCDS_COUNT tell them apart.
+ *
+ * Questions. They are asked in this order, and the first no is the answer:
+ *
+ *   1  w from 2 to 12?
+ *   2  p from 2 to 8?
+ *   3  levels from 1 to 4?
+ *   4  nominal from p to the power of levels, to 65,536?
+ *   6  string of at most RCDS_MAX_STRING bytes?
+ *   7  node table of at least RCDS_NODES_BYTES bytes?
+ *   8  tree of at most RCDS_MAX_NODES nodes?
+ */
+#ifndef RCDS_H
+#define RCDS_H
+
+#include <stddef.h>
+#include <stdint.h>
+
+#ifdef __cplusplus
+extern "C" {
+#endif
+
+/* The longest string that a call takes, in bytes. */
+#define RCDS_MAX_STRING 65536
+
+/* The most nodes that a tree may have. */
+#define RCDS_MAX_NODES 4096
+
+/* The bytes of one entry of a node table. */
+#define RCDS_NODE_BYTES 16
+
+/* The bytes that a node table needs: RCDS_MAX_NODES entries. */
+#define RCDS_NODES_BYTES 65536
+
+/*
+ * Whether the answer r says that the call was accepted: r is 0, or at least
+ * 2^32. (Below 0 comes the largest number, so that one comparison is enough.)
+ */
+#define RCDS_ACCEPTED(r) ((uint64_t)(r) - 1u >= UINT64_C(0xffffffff))
+
+/* The count of an accepted answer r. Of a refusal, the question's number. */
+#define RCDS_COUNT(r) ((uint64_t)(r) & UINT64_C(0xffffffff))
+
+/*
+ * rcds_tree - cut a string into its tree of blocks.
+ *
+ * w            bytes of a window. The value of a window decides where a cut
+ *              may come.
+ * p            fan-out: by how much the distance between cuts falls from one
+ *              level to the next.
+ * levels       levels of cutting. The whole string is the node of level 0.
+ * nominal      the length of string that the distances are worked out for. At
+ *              level l cuts are at least nominal / p^l bytes apart.
+ * string       the string, string_len bytes. Not changed.
+ * nodes        the node table, nodes_len bytes. What it holds before the call
+ *              does not matter.
+ *
+ * Two trees can be compared only if they were cut with the same w, p, levels
+ * and nominal.
+ *
+ * Asks 1, 2, 3, 4, 6, 7, 8.
+ *
+ * Accepted: RCDS_COUNT of the answer is the number of nodes, 2 to
+ * RCDS_MAX_NODES. The table holds them from its start, each before its
+ * children, and a child with all its descendants before its next sibling, from
+ * the left. Every node above the last level has 1 to 32 children, and these
+ * fill it end to end. Every lent byte of the table past the last node is zero.
+ *
+ * Refused by 1 to 7: the table is unchanged. Refused by 8: every lent byte of
+ * it is zero.
+ *
+ * The time grows in proportion to string_len times levels, whatever the bytes
+ * are.
+ */
+uint64_t rcds_tree(uint64_t w, uint64_t p, uint64_t levels, uint64_t nominal,
+                   const uint8_t *string, size_t string_len,
+                   uint8_t *nodes, size_t nodes_len);
+
+/*
+ * Reading a node table.
+ *
+ * An entry is two rows of 64 bits, most significant byte first: the id, and
+ * level + 8 * (length + 2^17 * start). The readers below take the table and
+ * the place k of an entry, counted from 0; the table must hold
+ * RCDS_NODE_BYTES * (k + 1) bytes. Any content of the entry is read.
+ */
+
+/* Row r of a table: eight bytes as a number. */
+static inline uint64_t rcds_row(const uint8_t *table, size_t r)
+{
+    uint64_t row = 0;
+    size_t i;
+
+    for (i = 8 * r; i < 8 * r + 8; i++)
+        row = row << 8 | table[i];
+    return row;
+}
+
+/* The id of node k: FNV-1a (64 bits) of its bytes, or 1 where that is 0. An
+ * entry that is not used has id 0. */
+static inline uint64_t rcds_node_id(const uint8_t *nodes, size_t k)
+{
+    return rcds_row(nodes, 2 * k);
+}
+
+/* The level of node k: 0 for the whole string, up to `levels`. */
+static inline uint64_t rcds_node_level(const uint8_t *nodes, size_t k)
+{
+    return rcds_row(nodes, 2 * k + 1) & 7;
+}
+
+/* How many bytes of the string node k has. */
+static inline uint64_t rcds_node_length(const uint8_t *nodes, size_t k)
+{
+    return rcds_row(nodes, 2 * k + 1) >> 3 & 0x1ffff;
+}
+
+/* The place of node k's first byte, counted from the start of the string. */
+static inline uint64_t rcds_node_start(const uint8_t *nodes, size_t k)
+{
+    return rcds_row(nodes, 2 * k + 1) >> 20 & 0x1ffff;
+}
+
+#ifdef __cplusplus
+}
+#endif
+
+#endif

@@ -1,0 +1,259 @@
+//! The cases: settings, string and table size, each made from the seed and the case's number alone.
+
+use crate::content::{self, Content, KINDS};
+use crate::random::Random;
+use reference::settings::Settings;
+
+/// One call.
+pub struct Case {
+    pub seed: u64,
+    pub number: usize,
+    pub settings: Settings,
+    pub content: Content,
+    pub string: Vec<u8>,
+    pub table_length: usize,
+    /// How far the lent pieces are moved in memory, so that most of them are not aligned.
+    pub string_shift: usize,
+    pub table_shift: usize,
+}
+
+/// The bytes of a node table with room for 4,096 nodes.
+const TABLE: usize = 65_536;
+
+/// The longest string that question 6 allows.
+const LONGEST: usize = 65_536;
+
+/// w, p and L outside and at the ends of what questions 1 to 3 allow; also numbers that would be
+/// allowed if only their low 8 or 32 bits were looked at.
+const WINDOWS: [u64; 8] = [0, 1, 2, 12, 13, 256 + 4, (1 << 32) + 4, u64::MAX];
+const FAN_OUTS: [u64; 8] = [0, 1, 2, 8, 9, 256 + 2, (1 << 32) + 2, u64::MAX];
+const LEVELS: [u64; 8] = [0, 1, 4, 5, 64, 256 + 1, (1 << 32) + 1, u64::MAX];
+
+/// How many nominal lengths `edge_nominal` has.
+const NOMINALS: usize = 8;
+
+/// With w=2 p=8 L=4 M=4,096 a string of 4,527 zeros has 4,096 nodes. The first of the lengths around
+/// it, and how many they are.
+const LIMIT_FROM: usize = 4_500;
+const LIMIT_LENGTHS: usize = 60;
+
+/// The families of cases, in the order in which they run, and how many cases each has.
+const FAMILIES: [(Family, usize); 9] = [
+    (Family::AtTheLimit, 4 * LIMIT_LENGTHS),
+    (Family::EdgeSettings, 8 * 8 * 8 * NOMINALS),
+    (Family::EdgeNominals, 3 * 7 * 4 * NOMINALS),
+    (Family::TableSizes, 1_500),
+    (Family::AllSettings, 11 * 7 * 4 * 45),
+    (Family::ManyNodes, 100),
+    (Family::TooLong, 100),
+    (Family::Middle, 1_500),
+    (Family::Long, 260),
+];
+
+#[derive(Clone, Copy)]
+enum Family {
+    /// Strings that have about 4,096 nodes.
+    AtTheLimit,
+    /// Every combination of settings at or past the ends of what is allowed.
+    EdgeSettings,
+    /// Every p and L that is allowed, with M at or past the ends of what question 4 allows.
+    EdgeNominals,
+    /// Node tables around 65,536 bytes, and much shorter and longer ones.
+    TableSizes,
+    /// Every w, p and L that is allowed, with M from p^L to 65,536, over short strings.
+    AllSettings,
+    /// Long strings of equal bytes with large p and L, which question 8 may refuse.
+    ManyNodes,
+    /// Strings of more than 65,536 bytes.
+    TooLong,
+    /// Strings of up to 5,000 bytes.
+    Middle,
+    /// Strings of up to 65,536 bytes, every thirteenth of exactly that many.
+    Long,
+}
+
+/// How many cases a run has.
+pub fn count() -> usize {
+    FAMILIES.iter().map(|(_, count)| count).sum()
+}
+
+/// The case of this number.
+pub fn case(seed: u64, number: usize) -> Case {
+    let mut place = number;
+    for (family, count) in FAMILIES {
+        if place < count {
+            return family_case(family, place, seed, number);
+        }
+        place -= count;
+    }
+    panic!("a run has {} cases", count());
+}
+
+fn family_case(family: Family, place: usize, seed: u64, number: usize) -> Case {
+    let mut random = Random::of_case(seed, number);
+    let random = &mut random;
+    let settings = match family {
+        Family::AtTheLimit => most_nodes(),
+        Family::EdgeSettings => edge_settings(place),
+        Family::EdgeNominals => edge_nominals(place, random),
+        Family::AllSettings => {
+            let (w, p, levels) = (place % 11, place / 11 % 7, place / 77 % 4);
+            with_nominal(2 + w as u64, 2 + p as u64, 1 + levels as u64, random)
+        }
+        Family::ManyNodes => many_nodes(random),
+        Family::TableSizes | Family::TooLong | Family::Middle | Family::Long => any_allowed(random),
+    };
+    let length = match family {
+        Family::AtTheLimit => LIMIT_FROM + place % LIMIT_LENGTHS,
+        Family::TooLong => random.one_of(&[LONGEST + 1, LONGEST + 2, 70_000, 131_072, 200_000]),
+        Family::ManyNodes => random.by_size(3_000, LONGEST as u64) as usize,
+        Family::Middle => any_length(&settings, 600, 5_000, random),
+        Family::Long if place % 13 == 0 => LONGEST,
+        Family::Long => any_length(&settings, 5_000, LONGEST, random),
+        Family::EdgeSettings => random.one_of(&[0, 5, 100, LONGEST + 1]),
+        Family::EdgeNominals => random.between(0, 600) as usize,
+        Family::TableSizes | Family::AllSettings => any_length(&settings, 0, 1_200, random),
+    };
+    let content = match family {
+        Family::AtTheLimit if place < LIMIT_LENGTHS => Content::Zeros,
+        Family::ManyNodes => random.one_of(&[Content::Zeros, Content::AllEqual, Content::Edited]),
+        Family::Middle | Family::Long => KINDS[place % KINDS.len()],
+        _ => random.one_of(&KINDS),
+    };
+    let table_length = match family {
+        Family::EdgeSettings | Family::TableSizes => any_table(random),
+        _ => random.one_of(&[TABLE, TABLE, TABLE, TABLE + 1, TABLE + 16, TABLE + 40]),
+    };
+    Case {
+        seed,
+        number,
+        settings,
+        content,
+        string: content::string(content, length, random),
+        table_length,
+        string_shift: random.between(0, 15) as usize,
+        table_shift: random.between(0, 15) as usize,
+    }
+}
+
+/// The settings with which a string of zeros has most nodes for its length.
+fn most_nodes() -> Settings {
+    Settings {
+        window: 2,
+        fan_out: 8,
+        levels: 4,
+        nominal: 4_096,
+    }
+}
+
+/// The combination of this number.
+fn edge_settings(place: usize) -> Settings {
+    let (fan_out, levels) = (FAN_OUTS[place / 8 % 8], LEVELS[place / 64 % 8]);
+    Settings {
+        window: WINDOWS[place % 8],
+        fan_out,
+        levels,
+        nominal: edge_nominal(fan_out, levels, place / 512),
+    }
+}
+
+/// Allowed w, p and L with the M of this number.
+fn edge_nominals(place: usize, random: &mut Random) -> Settings {
+    let (fan_out, levels) = (2 + place as u64 % 7, 1 + place as u64 / 7 % 4);
+    Settings {
+        window: random.between(2, 12),
+        fan_out,
+        levels,
+        nominal: edge_nominal(fan_out, levels, place / 28 % NOMINALS),
+    }
+}
+
+/// M at and past the ends of what question 4 allows, where p^L is a number of 64 bits.
+fn edge_nominal(fan_out: u64, levels: u64, which: usize) -> u64 {
+    let exponent = levels.min(64) as u32;
+    let least = fan_out.checked_pow(exponent).unwrap_or(65_536);
+    let nominals: [u64; NOMINALS] = [
+        0,
+        least.saturating_sub(1),
+        least,
+        65_536,
+        65_537,
+        (1 << 32) + least.min(65_536),
+        (1 << 16) + least.min(65_536),
+        u64::MAX,
+    ];
+    nominals[which]
+}
+
+/// Settings with an M that is allowed: either end, close to the lower end, or any.
+fn with_nominal(window: u64, fan_out: u64, levels: u64, random: &mut Random) -> Settings {
+    let least = fan_out.pow(levels as u32);
+    let nominal = match random.between(0, 9) {
+        0 => least,
+        1 => 65_536,
+        2 | 3 => random.between(least, 2 * least),
+        _ => random.by_size(least, 65_536),
+    };
+    Settings {
+        window,
+        fan_out,
+        levels,
+        nominal,
+    }
+}
+
+fn any_allowed(random: &mut Random) -> Settings {
+    let (w, p, levels) = (
+        random.between(2, 12),
+        random.between(2, 8),
+        random.between(1, 4),
+    );
+    with_nominal(w, p, levels, random)
+}
+
+/// Settings with which equal bytes give thousands of nodes.
+fn many_nodes(random: &mut Random) -> Settings {
+    let fan_out = random.between(5, 8);
+    let least = fan_out.pow(4);
+    Settings {
+        window: random.between(2, 12),
+        fan_out,
+        levels: 4,
+        nominal: random.between(least, 3 * least),
+    }
+}
+
+/// A length from `least` to `most`: any; or one at which a level begins to have room for its first
+/// cut, or for one cut more, or just misses it. Equal bytes have k cuts from (k + 1) × h + w on.
+fn any_length(settings: &Settings, least: usize, most: usize, random: &mut Random) -> usize {
+    let rule = settings.rule(random.between(1, settings.levels));
+    let most_cuts = random.one_of(&[1, 33]);
+    let cuts = random.between(1, most_cuts) as usize;
+    let edge = (cuts + 1) * rule.distance + rule.window;
+    let near_edge = edge - 2 + random.between(0, 4) as usize;
+    let any = random.by_size(least as u64, most as u64) as usize;
+    if random.between(0, 1) == 0 && (least..=most).contains(&near_edge) {
+        near_edge
+    } else {
+        any
+    }
+}
+
+/// Any size of a node table, most of them around the limit.
+fn any_table(random: &mut Random) -> usize {
+    let short = random.between(0, TABLE as u64 - 1) as usize;
+    let long = random.between(TABLE as u64, 3 * TABLE as u64) as usize;
+    random.one_of(&[
+        0,
+        1,
+        15,
+        16,
+        short,
+        TABLE - 16,
+        TABLE - 1,
+        TABLE,
+        TABLE + 1,
+        TABLE + 16,
+        long,
+    ])
+}

@@ -1,0 +1,314 @@
+//! The comparison tested: one function that is right, and many that are wrong in one place each.
+//! Every wrong one must be found, and the right one must pass.
+
+use crate::compare::Tree;
+use crate::report::run;
+use reference::fnv::{block_id, fnv1a};
+
+const NONE: u8 = 0;
+const SMALLER_THAN_BEFORE: u8 = 1;
+const SMALLER_THAN_AFTER: u8 = 2;
+const NEARER_NEIGHBOURS: u8 = 3;
+const WINDOW_ENDS_EARLY: u8 = 4;
+const ONE_CUT_MORE: u8 = 5;
+const CUTS_NEARER: u8 = 6;
+const CHILDREN_FIRST: u8 = 7;
+const LEVEL_FROM_1: u8 = 8;
+const ID_0_LEFT: u8 = 9;
+const NOT_CLEARED: u8 = 10;
+const NOT_ZEROED_AT_8: u8 = 11;
+const LEVELS_AFTER_NOMINAL: u8 = 12;
+const DISTANCE_ROUNDED_UP: u8 = 13;
+const NEXT_LEVELS_MODULUS: u8 = 14;
+const LAST_BYTE_HIGHEST: u8 = 15;
+const BASE_256: u8 = 16;
+const NOT_MODULO_65521: u8 = 17;
+const WINDOWS_PAST_THE_CHILD: u8 = 18;
+const START_IN_THE_PARENT: u8 = 19;
+const ONE_NODE_MORE: u8 = 20;
+const ONE_NODE_FEWER: u8 = 21;
+const TABLE_ONE_SHORTER: u8 = 22;
+const STRING_ONE_LONGER: u8 = 23;
+const STRING_ONE_SHORTER: u8 = 24;
+const PAST_THE_TABLE: u8 = 25;
+const BEFORE_THE_TABLE: u8 = 26;
+const STRING_CHANGED: u8 = 27;
+const WHOLE_ENTRIES_CLEARED: u8 = 28;
+const ZEROED_AT_7: u8 = 29;
+const LOW_BYTE_FIRST: u8 = 30;
+const LOW_32_BITS: u8 = 31;
+const NO_LONE_CHILD: u8 = 32;
+const WINDOW_12_REFUSED: u8 = 33;
+const LEAST_NOMINAL_REFUSED: u8 = 34;
+const MOST_NOMINAL_REFUSED: u8 = 35;
+const STRING_BEFORE_SETTINGS: u8 = 36;
+const TABLE_BEFORE_STRING: u8 = 37;
+const FULL_STRETCHES_ONLY: u8 = 38;
+
+/// What the recursion carries.
+struct Cutting<'a> {
+    fault: u8,
+    w: usize,
+    p: u64,
+    levels: u64,
+    nominal: u64,
+    string: &'a [u8],
+    nodes: Vec<[u64; 2]>,
+}
+
+impl Cutting<'_> {
+    fn has(&self, fault: u8) -> bool {
+        self.fault == fault
+    }
+
+    /// The value of the window at i, of bytes as far as they go.
+    fn value(&self, bytes: &[u8], i: usize, s: u64) -> u64 {
+        let window = &bytes[i..(i + self.w).min(bytes.len())];
+        let base = if self.has(BASE_256) { 256 } else { 257 };
+        let digit = |number: u128, &byte: &u8| number * base + u128::from(byte);
+        let number = if self.has(LAST_BYTE_HIGHEST) {
+            window.iter().rev().fold(0, digit)
+        } else {
+            window.iter().fold(0, digit)
+        };
+        if self.has(NOT_MODULO_65521) {
+            return (number % u128::from(s)) as u64;
+        }
+        (number % 65_521) as u64 % s
+    }
+
+    /// Whether the value at i is least, as far as there are values.
+    fn is_candidate(&self, values: &[u64], i: usize, h: usize) -> bool {
+        let near = if self.has(NEARER_NEIGHBOURS) {
+            h - 1
+        } else {
+            h
+        };
+        let own = values[i];
+        let after = &values[i + 1..(i + near + 1).min(values.len())];
+        values[i - near..i]
+            .iter()
+            .all(|&v| own < v || own == v && !self.has(SMALLER_THAN_BEFORE))
+            && after
+                .iter()
+                .all(|&v| own < v || own == v && !self.has(SMALLER_THAN_AFTER))
+    }
+
+    fn cuts(&self, start: usize, length: usize, level: u64) -> Vec<usize> {
+        let mut h = (self.nominal / self.p.pow(level as u32)) as usize;
+        if self.has(DISTANCE_ROUNDED_UP) {
+            h = self.nominal.div_ceil(self.p.pow(level as u32)) as usize;
+        }
+        let mut s = self.w as u64 * self.p.pow((self.levels - level + 1) as u32);
+        if self.has(NEXT_LEVELS_MODULUS) {
+            s /= self.p;
+        }
+        let bytes = if self.has(WINDOWS_PAST_THE_CHILD) {
+            &self.string[start..]
+        } else {
+            &self.string[start..start + length]
+        };
+        let values: Vec<u64> = (0..length).map(|i| self.value(bytes, i, s)).collect();
+        let open = self.has(WINDOW_ENDS_EARLY) || self.has(WINDOWS_PAST_THE_CHILD);
+        let barred = if open { 0 } else { self.w - 1 };
+        let values = &values[..length.saturating_sub(barred)];
+        let mut end = values.len().saturating_sub(h);
+        if self.has(FULL_STRETCHES_ONLY) {
+            end = end / h * h;
+        }
+        let spacing = if self.has(CUTS_NEARER) { h - 1 } else { h };
+        let most = if self.has(ONE_CUT_MORE) { 32 } else { 31 };
+        let mut cuts: Vec<usize> = Vec::new();
+        for i in h..end {
+            if cuts.len() == most {
+                break;
+            }
+            let spaced = cuts.last().map_or(true, |last| i >= last + spacing);
+            if spaced && self.is_candidate(values, i, h) {
+                cuts.push(i);
+            }
+        }
+        cuts
+    }
+
+    fn list(&mut self, start: usize, length: usize, level: u64, parent: usize) {
+        let bytes = &self.string[start..start + length];
+        let id = if self.has(ID_0_LEFT) {
+            fnv1a(bytes)
+        } else {
+            block_id(bytes)
+        };
+        let shown = level + u64::from(self.has(LEVEL_FROM_1));
+        let place = if self.has(START_IN_THE_PARENT) {
+            start - parent
+        } else {
+            start
+        };
+        let node = [id, shown + 8 * (length as u64 + (place as u64) * 131_072)];
+        if !self.has(CHILDREN_FIRST) {
+            self.nodes.push(node);
+        }
+        if level < self.levels {
+            let cuts = self.cuts(start, length, level + 1);
+            let ends = cuts.iter().copied().chain([length]);
+            let starts = [0].into_iter().chain(cuts.iter().copied());
+            if !(self.has(NO_LONE_CHILD) && cuts.is_empty()) {
+                for (from, to) in starts.zip(ends) {
+                    self.list(start + from, to - from, level + 1, start);
+                }
+            }
+        }
+        if self.has(CHILDREN_FIRST) {
+            self.nodes.push(node);
+        }
+    }
+}
+
+/// The first question of the settings that has a no.
+fn refused(fault: u8, w: u64, p: u64, levels: u64, nominal: u64) -> Option<u64> {
+    let most_w = if fault == WINDOW_12_REFUSED { 11 } else { 12 };
+    if !(2..=most_w).contains(&w) {
+        return Some(1);
+    }
+    if !(2..=8).contains(&p) {
+        return Some(2);
+    }
+    let levels_wrong = !(1..=4).contains(&levels);
+    if levels_wrong && fault != LEVELS_AFTER_NOMINAL {
+        return Some(3);
+    }
+    let least = p.saturating_pow(levels.min(64) as u32);
+    let most = 65_536 - u64::from(fault == MOST_NOMINAL_REFUSED);
+    if nominal < least + u64::from(fault == LEAST_NOMINAL_REFUSED) || nominal > most {
+        return Some(4);
+    }
+    levels_wrong.then_some(3)
+}
+
+/// `rcds_tree` with one fault.
+fn answer(fault: u8, settings: [u64; 4], string: &[u8], table: &mut [u8]) -> u64 {
+    let settings = match fault {
+        LOW_32_BITS => settings.map(|number| number & 0xffff_ffff),
+        _ => settings,
+    };
+    let [w, p, levels, nominal] = settings;
+    if fault == STRING_BEFORE_SETTINGS && string.len() > 65_536 {
+        return 6;
+    }
+    if let Some(question) = refused(fault, w, p, levels, nominal) {
+        return question;
+    }
+    let longest = match fault {
+        STRING_ONE_LONGER => 65_537,
+        STRING_ONE_SHORTER => 65_535,
+        _ => 65_536,
+    };
+    let table_wrong = table.len() < 65_536 - usize::from(fault == TABLE_ONE_SHORTER);
+    if string.len() > longest && !(fault == TABLE_BEFORE_STRING && table_wrong) {
+        return 6;
+    }
+    if table_wrong {
+        if fault == ZEROED_AT_7 {
+            table.fill(0);
+        }
+        return 7;
+    }
+    let mut cutting = Cutting {
+        fault,
+        w: w as usize,
+        p,
+        levels,
+        nominal,
+        string,
+        nodes: Vec::new(),
+    };
+    cutting.list(0, string.len(), 0, 0);
+    let most = match fault {
+        ONE_NODE_MORE => 4_097,
+        ONE_NODE_FEWER => 4_095,
+        _ => 4_096,
+    };
+    if cutting.nodes.len() > most {
+        if fault != NOT_ZEROED_AT_8 {
+            table.fill(0);
+        }
+        return 8;
+    }
+    write(fault, &cutting.nodes, table);
+    (1 << 32) + cutting.nodes.len() as u64
+}
+
+fn write(fault: u8, nodes: &[[u64; 2]], table: &mut [u8]) {
+    let cleared = match fault {
+        NOT_CLEARED => 0,
+        WHOLE_ENTRIES_CLEARED => table.len() / 16 * 16,
+        _ => table.len(),
+    };
+    table[..cleared].fill(0);
+    for (entry, node) in table.chunks_exact_mut(16).zip(nodes) {
+        for (bytes, row) in entry.chunks_exact_mut(8).zip(node) {
+            bytes.copy_from_slice(&match fault {
+                LOW_BYTE_FIRST => row.to_le_bytes(),
+                _ => row.to_be_bytes(),
+            });
+        }
+    }
+}
+
+/// The function with one fault, as C would call it.
+unsafe extern "C" fn faulty<const FAULT: u8>(
+    w: u64,
+    p: u64,
+    levels: u64,
+    nominal: u64,
+    string: *const u8,
+    string_len: usize,
+    nodes: *mut u8,
+    nodes_len: usize,
+) -> u64 {
+    let lent = std::slice::from_raw_parts(string, string_len);
+    let table = std::slice::from_raw_parts_mut(nodes, nodes_len);
+    let answer = answer(FAULT, [w, p, levels, nominal], lent, table);
+    // The guard bytes and the string come from vectors, so these writes stay in their memory.
+    match FAULT {
+        PAST_THE_TABLE => *nodes.add(nodes_len) ^= 1,
+        BEFORE_THE_TABLE => *nodes.sub(1) ^= 1,
+        STRING_CHANGED if string_len > 0 => *string.cast_mut() ^= 1,
+        _ => {}
+    }
+    answer
+}
+
+macro_rules! functions {
+    ($($fault:ident)*) => { [$((stringify!($fault), faulty::<$fault> as Tree)),*] };
+}
+
+const SEED: u64 = 1;
+
+#[test]
+fn the_right_function_passes() {
+    match run(SEED, faulty::<NONE>) {
+        Ok(report) => report.assert_complete(),
+        Err(failure) => panic!("{failure}"),
+    }
+}
+
+#[test]
+fn every_fault_is_found() {
+    let functions = functions! {
+        SMALLER_THAN_BEFORE SMALLER_THAN_AFTER NEARER_NEIGHBOURS WINDOW_ENDS_EARLY ONE_CUT_MORE
+        CUTS_NEARER CHILDREN_FIRST LEVEL_FROM_1 ID_0_LEFT NOT_CLEARED NOT_ZEROED_AT_8
+        LEVELS_AFTER_NOMINAL DISTANCE_ROUNDED_UP NEXT_LEVELS_MODULUS LAST_BYTE_HIGHEST BASE_256
+        NOT_MODULO_65521 WINDOWS_PAST_THE_CHILD START_IN_THE_PARENT ONE_NODE_MORE ONE_NODE_FEWER
+        TABLE_ONE_SHORTER STRING_ONE_LONGER STRING_ONE_SHORTER PAST_THE_TABLE BEFORE_THE_TABLE
+        STRING_CHANGED WHOLE_ENTRIES_CLEARED ZEROED_AT_7 LOW_BYTE_FIRST LOW_32_BITS NO_LONE_CHILD
+        WINDOW_12_REFUSED LEAST_NOMINAL_REFUSED MOST_NOMINAL_REFUSED STRING_BEFORE_SETTINGS
+        TABLE_BEFORE_STRING FULL_STRETCHES_ONLY
+    };
+    for (name, function) in functions {
+        match run(SEED, function) {
+            Ok(_) => panic!("{name} passed"),
+            Err(failure) => println!("{name}: {failure}"),
+        }
+    }
+}

@@ -1,0 +1,36 @@
+//! Prints what the program `vectors` must print, worked out by the reference.
+//!
+//! Every line ends in one line feed; words are parted by one space; numbers are decimal.
+//!
+//! 1. `fnv LENGTH VALUE`, FNV-1a of an input and the input's length, 269 lines: the texts "", "a",
+//!    "b", "c", "d", "e", "f", "fo", "foo", "foob", "fooba", "foobar"; the 256 strings of one byte,
+//!    00 to ff; the eight bytes d5 6b b9 53 42 87 08 36.
+//! 2. `id VALUE`, one line: the block id of those eight bytes.
+//! 3. `W P L M KIND LENGTH ANSWER DIGEST`, 410 lines. ANSWER is the answer of `rcds_tree` with
+//!    these settings over the string of this kind and length, and a node table of 65,536 bytes
+//!    that are all 170 before the call. DIGEST is FNV-1a of the table's 65,536 bytes after it.
+//!    - For each of the settings 2 2 1 2, 2 2 4 16, 3 4 2 64, 12 8 1 8, 4 2 3 65536, 5 3 4 1000,
+//!      2 8 4 4096, 7 5 2 300: for each kind 0 to 5, for each length of 0, 1, 5, 17, 100, 1000,
+//!      4527, 20000, a line; then, of the same settings, kind 0 length 65536 and kind 2 length
+//!      65536.
+//!    - Then ten lines that are refused: kind 2 length 100 with the settings 1 2 1 2, 13 2 1 2,
+//!      2 1 1 2, 2 9 1 9, 2 2 0 2, 2 2 5 32, 2 2 1 1, 2 2 4 15, 2 2 1 65537; and kind 0 length
+//!      65537 with the settings 2 2 1 2.
+//!
+//! Strings. The random bytes of a string: x starts at 8 × length + kind; for each byte first
+//! x = (x × 6364136223846793005 + 1442695040888963407) mod 2^64, then the byte is x / 2^56.
+//! - Kind 0: every byte 0.
+//! - Kind 1: every byte 7.
+//! - Kind 2: the random bytes.
+//! - Kind 3: each random byte divided by 64, rounded down.
+//! - Kind 4: samples of two bytes, high byte first: byte 2k is v / 256 and byte 2k + 1 is v mod
+//!   256, where t = k mod 1000 and v = 8 × t if t < 500, else 8 × (1000 − t).
+//! - Kind 5: the first 37 random bytes, over and over: byte i is byte i − 37 from 37 on.
+
+use reference::vectors::{fnv_lines, tree_lines};
+
+fn main() {
+    for line in fnv_lines().into_iter().chain(tree_lines()) {
+        println!("{line}");
+    }
+}

@@ -1,0 +1,89 @@
+//! How one string is cut into blocks: window values, candidates, cuts.
+
+use crate::settings::Rule;
+
+/// "After 31 cuts no more are made."
+pub const MOST_CUTS: usize = 31;
+
+/// A part of a string: where it starts, and how many bytes it has.
+#[derive(Clone, Copy, Debug, PartialEq, Eq)]
+pub struct Block {
+    pub start: usize,
+    pub length: usize,
+}
+
+/// "read w bytes from i as a base-257 number, first byte highest; take it modulo 65,521"
+///
+/// Twelve digits of base 257 stay below 2^128, so the number is read whole.
+pub fn window_remainder(string: &[u8], i: usize, window: usize) -> u64 {
+    let mut number: u128 = 0;
+    for &byte in &string[i..i + window] {
+        number = number * 257 + u128::from(byte);
+    }
+    (number % 65_521) as u64
+}
+
+/// "then modulo s"
+pub fn window_value(string: &[u8], i: usize, rule: &Rule) -> u64 {
+    window_remainder(string, i, rule.window) % rule.modulus
+}
+
+/// The values of all windows: "for 0 ≤ i ≤ n−w". None where the string is shorter than a window.
+pub fn window_values(string: &[u8], rule: &Rule) -> Vec<u64> {
+    let mut values = Vec::new();
+    let mut i = 0;
+    while i + rule.window <= string.len() {
+        values.push(window_value(string, i, rule));
+        i += 1;
+    }
+    values
+}
+
+/// The positions that a candidate may have: "when h ≤ i ≤ n−w−h", in signed numbers, so that a
+/// short string has none.
+pub fn candidate_range(string: &[u8], rule: &Rule) -> std::ops::RangeInclusive<i64> {
+    let n = string.len() as i64;
+    let w = rule.window as i64;
+    let h = rule.distance as i64;
+    h..=n - w - h
+}
+
+/// "its value is not greater than any value at distance 1 to h on either side"
+pub fn is_candidate(values: &[u64], i: usize, rule: &Rule) -> bool {
+    (1..=rule.distance).all(|d| values[i] <= values[i - d] && values[i] <= values[i + d])
+}
+
+/// "From the left, a candidate becomes a cut if it is the first, or at least h after the last
+/// cut. After 31 cuts no more are made."
+pub fn cuts(string: &[u8], rule: &Rule) -> Vec<usize> {
+    let values = window_values(string, rule);
+    let mut cuts: Vec<usize> = Vec::new();
+    for i in candidate_range(string, rule) {
+        let i = i as usize;
+        if cuts.len() == MOST_CUTS {
+            break;
+        }
+        if !is_candidate(&values, i, rule) {
+            continue;
+        }
+        match cuts.last() {
+            None => cuts.push(i),
+            Some(last) if i >= last + rule.distance => cuts.push(i),
+            Some(_) => {}
+        }
+    }
+    cuts
+}
+
+/// "A cut at i starts a block at byte i. A string with no cut is one block, itself."
+pub fn blocks(string: &[u8], rule: &Rule) -> Vec<Block> {
+    let mut starts = vec![0];
+    starts.extend(cuts(string, rule));
+    let mut ends = starts[1..].to_vec();
+    ends.push(string.len());
+    let block = |(&start, &end): (&usize, &usize)| Block {
+        start,
+        length: end - start,
+    };
+    starts.iter().zip(&ends).map(block).collect()
+}

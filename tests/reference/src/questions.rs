@@ -1,0 +1,45 @@
+//! The questions that a setup asks. A function answers `true` for a yes.
+
+use crate::settings::Settings;
+
+/// The bytes of a string that question 6 allows.
+pub const MOST_BYTES: usize = 65_536;
+
+/// The nodes of a tree that question 8 allows.
+pub const MOST_NODES: usize = 4_096;
+
+/// "1 w 2 to 12?"
+pub fn window_allowed(settings: &Settings) -> bool {
+    (2..=12).contains(&settings.window)
+}
+
+/// "2 p 2 to 8?"
+pub fn fan_out_allowed(settings: &Settings) -> bool {
+    (2..=8).contains(&settings.fan_out)
+}
+
+/// "3 L 1 to 4?"
+pub fn levels_allowed(settings: &Settings) -> bool {
+    (1..=4).contains(&settings.levels)
+}
+
+/// "4 M from p^L to 65,536?" Asked after 2 and 3 had a yes, so that the power is small.
+pub fn nominal_allowed(settings: &Settings) -> bool {
+    let least = settings.fan_out.pow(settings.levels as u32);
+    (least..=65_536).contains(&settings.nominal)
+}
+
+/// "6 string at most 65,536 bytes?"
+pub fn string_allowed(string: &[u8]) -> bool {
+    string.len() <= MOST_BYTES
+}
+
+/// "7 lent tables long enough for 4,096 nodes ...?", asked of the node table.
+pub fn node_table_allowed(table: &[u8]) -> bool {
+    table.len() >= MOST_NODES * crate::node_table::ENTRY_BYTES
+}
+
+/// "8 at most 4,096 nodes?"
+pub fn nodes_allowed(nodes: &[crate::tree::Node]) -> bool {
+    nodes.len() <= MOST_NODES
+}

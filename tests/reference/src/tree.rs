@@ -1,0 +1,50 @@
+//! A string's tree of blocks, as the list of its nodes.
+
+use crate::fnv::block_id;
+use crate::partition::{blocks, Block};
+use crate::settings::Settings;
+
+/// A node: its level, its place in the whole string, and the id of its bytes.
+#[derive(Clone, Copy, Debug, PartialEq, Eq)]
+pub struct Node {
+    pub level: u64,
+    pub start: usize,
+    pub length: usize,
+    pub id: u64,
+}
+
+/// "The whole string is the node of level 0." For allowed settings only.
+pub fn tree(settings: &Settings, string: &[u8]) -> Vec<Node> {
+    let mut nodes = Vec::new();
+    let whole = Block {
+        start: 0,
+        length: string.len(),
+    };
+    list(settings, string, 0, whole, &mut nodes);
+    nodes
+}
+
+/// "A node's blocks are its children, and they are cut in turn by the next level's rule, down to
+/// level L. Nodes are listed each before its children, and a child with all its descendants
+/// before its next sibling, from the left."
+///
+/// A child is cut as a string of its own; its start is counted from the start of the whole string.
+fn list(settings: &Settings, string: &[u8], level: u64, node: Block, nodes: &mut Vec<Node>) {
+    let bytes = &string[node.start..node.start + node.length];
+    nodes.push(Node {
+        level,
+        start: node.start,
+        length: node.length,
+        id: block_id(bytes),
+    });
+    if level == settings.levels {
+        return;
+    }
+    for block in blocks(bytes, &settings.rule(level + 1)) {
+        let child = Block {
+            start: node.start + block.start,
+            length: block.length,
+        };
+        list(settings, string, level + 1, child, nodes);
+    }
+}

@@ -1,0 +1,140 @@
+//! The strings and settings that the program `vectors` runs through, and what it prints for them.
+//! The head of `bin/reference-vectors.rs` says the format.
+
+use crate::fnv::{block_id, fnv1a};
+use crate::rcds::rcds_tree;
+use crate::settings::Settings;
+
+/// Published inputs of FNV-1a.
+pub const PUBLISHED: [&str; 12] = [
+    "", "a", "b", "c", "d", "e", "f", "fo", "foo", "foob", "fooba", "foobar",
+];
+
+/// Eight bytes whose FNV-1a is 0.
+pub const HASHES_TO_ZERO: [u8; 8] = [0xd5, 0x6b, 0xb9, 0x53, 0x42, 0x87, 0x08, 0x36];
+
+/// w, p, L, M of the settings that are run over every string.
+pub const SETTINGS: [[u64; 4]; 8] = [
+    [2, 2, 1, 2],
+    [2, 2, 4, 16],
+    [3, 4, 2, 64],
+    [12, 8, 1, 8],
+    [4, 2, 3, 65_536],
+    [5, 3, 4, 1_000],
+    [2, 8, 4, 4_096],
+    [7, 5, 2, 300],
+];
+
+/// The lengths of every kind of string.
+pub const LENGTHS: [usize; 8] = [0, 1, 5, 17, 100, 1_000, 4_527, 20_000];
+
+/// Two more strings, as kind and length.
+pub const LONGEST: [[usize; 2]; 2] = [[0, 65_536], [2, 65_536]];
+
+/// w, p, L, M, kind, length of the cases that are refused before a string is cut.
+pub const REFUSED: [[u64; 6]; 10] = [
+    [1, 2, 1, 2, 2, 100],
+    [13, 2, 1, 2, 2, 100],
+    [2, 1, 1, 2, 2, 100],
+    [2, 9, 1, 9, 2, 100],
+    [2, 2, 0, 2, 2, 100],
+    [2, 2, 5, 32, 2, 100],
+    [2, 2, 1, 1, 2, 100],
+    [2, 2, 4, 15, 2, 100],
+    [2, 2, 1, 65_537, 2, 100],
+    [2, 2, 1, 2, 0, 65_537],
+];
+
+/// The bytes of the node table before each call.
+pub const BEFORE: u8 = 170;
+
+/// One step of the linear congruential generator modulo 2^64.
+fn step(x: u64) -> u64 {
+    x.wrapping_mul(6_364_136_223_846_793_005)
+        .wrapping_add(1_442_695_040_888_963_407)
+}
+
+/// The first `length` bytes of the generator started at `seed`: a step, then its highest byte.
+fn random_bytes(seed: u64, length: usize) -> Vec<u8> {
+    let mut x = seed;
+    let mut bytes = Vec::with_capacity(length);
+    for _ in 0..length {
+        x = step(x);
+        bytes.push((x >> 56) as u8);
+    }
+    bytes
+}
+
+/// Sample k of a triangle wave of period 1,000 between 0 and 4,000.
+pub fn triangle(k: usize) -> usize {
+    let t = k % 1_000;
+    if t < 500 {
+        8 * t
+    } else {
+        8 * (1_000 - t)
+    }
+}
+
+/// The string of a kind and a length.
+pub fn string(kind: u64, length: usize) -> Vec<u8> {
+    let random = random_bytes(8 * length as u64 + kind, length);
+    let byte = |i: usize| match kind {
+        0 => 0,
+        1 => 7,
+        2 => random[i],
+        3 => random[i] / 64,
+        4 if i % 2 == 0 => (triangle(i / 2) / 256) as u8,
+        4 => (triangle(i / 2) % 256) as u8,
+        5 => random[i % 37],
+        _ => panic!("kinds are 0 to 5"),
+    };
+    (0..length).map(byte).collect()
+}
+
+/// The line of one tree case.
+fn tree_line(settings: [u64; 4], kind: u64, length: usize) -> String {
+    let [w, p, levels, nominal] = settings;
+    let settings = Settings {
+        window: w,
+        fan_out: p,
+        levels,
+        nominal,
+    };
+    let mut table = vec![BEFORE; 65_536];
+    let answer = rcds_tree(&settings, &string(kind, length), &mut table);
+    let digest = fnv1a(&table);
+    format!("{w} {p} {levels} {nominal} {kind} {length} {answer} {digest}")
+}
+
+/// The lines of FNV-1a and of the block id.
+pub fn fnv_lines() -> Vec<String> {
+    let mut inputs: Vec<Vec<u8>> = PUBLISHED
+        .iter()
+        .map(|text| text.as_bytes().to_vec())
+        .collect();
+    inputs.extend((0..=255).map(|byte| vec![byte]));
+    inputs.push(HASHES_TO_ZERO.to_vec());
+    let line = |input: &Vec<u8>| format!("fnv {} {}", input.len(), fnv1a(input));
+    let mut lines: Vec<String> = inputs.iter().map(line).collect();
+    lines.push(format!("id {}", block_id(&HASHES_TO_ZERO)));
+    lines
+}
+
+/// The lines of all tree cases.
+pub fn tree_lines() -> Vec<String> {
+    let mut lines = Vec::new();
+    for settings in SETTINGS {
+        for kind in 0..=5 {
+            for length in LENGTHS {
+                lines.push(tree_line(settings, kind, length));
+            }
+        }
+        for [kind, length] in LONGEST {
+            lines.push(tree_line(settings, kind as u64, length));
+        }
+    }
+    for [w, p, levels, nominal, kind, length] in REFUSED {
+        lines.push(tree_line([w, p, levels, nominal], kind, length as usize));
+    }
+    lines
+}

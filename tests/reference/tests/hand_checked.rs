@@ -1,0 +1,211 @@
+//! Document 01, "Checked by hand", and the published values of FNV-1a.
+
+use reference::fnv::{block_id, fnv1a, fnv1a_from, BASIS};
+use reference::node_table;
+use reference::partition::{blocks, cuts, window_remainder, window_value, window_values, Block};
+use reference::rcds::{rcds_tree, ACCEPTED};
+use reference::settings::{Rule, Settings};
+use reference::tree::{tree, Node};
+use reference::vectors::HASHES_TO_ZERO;
+
+/// "With w=2, p=2, L=1, M=2"
+const SMALLEST: Settings = Settings {
+    window: 2,
+    fan_out: 2,
+    levels: 1,
+    nominal: 2,
+};
+
+/// The settings with which zeros give most nodes.
+const MOST_NODES: Settings = Settings {
+    window: 2,
+    fan_out: 8,
+    levels: 4,
+    nominal: 4_096,
+};
+
+fn places(nodes: &[Node]) -> Vec<(u64, usize, usize)> {
+    nodes
+        .iter()
+        .map(|node| (node.level, node.start, node.length))
+        .collect()
+}
+
+#[test]
+fn distance_is_1_and_modulus_is_4() {
+    let rule = Rule {
+        window: 2,
+        distance: 1,
+        modulus: 4,
+    };
+    assert_eq!(SMALLEST.rule(1), rule);
+}
+
+#[test]
+fn every_level_has_its_own_distance_and_modulus() {
+    let rules: Vec<(usize, u64)> = (1..=4)
+        .map(|level| MOST_NODES.rule(level))
+        .map(|rule| (rule.distance, rule.modulus))
+        .collect();
+    assert_eq!(rules, [(512, 8_192), (64, 1_024), (8, 128), (1, 16)]);
+}
+
+#[test]
+fn values_of_windows() {
+    let rule = SMALLEST.rule(1);
+    assert_eq!(window_value(&[0x01, 0x02], 0, &rule), 3);
+    assert_eq!(window_value(&[0xff, 0xff], 0, &rule), 1);
+    assert_eq!(window_remainder(&[0x01, 0x00, 0x00], 0, 3), 528);
+}
+
+#[test]
+fn six_bytes() {
+    let string = [0x00, 0x03, 0x00, 0x00, 0x01, 0x00];
+    let rule = SMALLEST.rule(1);
+    assert_eq!(window_values(&string, &rule), [3, 3, 0, 1, 1]);
+    assert_eq!(cuts(&string, &rule), [2]);
+    let expected = [
+        Block {
+            start: 0,
+            length: 2,
+        },
+        Block {
+            start: 2,
+            length: 4,
+        },
+    ];
+    assert_eq!(blocks(&string, &rule), expected);
+    let nodes = tree(&SMALLEST, &string);
+    assert_eq!(places(&nodes), [(0, 0, 6), (1, 0, 2), (1, 2, 4)]);
+    assert_eq!(nodes[2].id, fnv1a(&string[2..]));
+}
+
+#[test]
+fn runs_of_07() {
+    let rule = SMALLEST.rule(1);
+    assert_eq!(cuts(&[7; 5], &rule), [1, 2]);
+    assert_eq!(cuts(&[7; 4], &rule), [1]);
+    assert_eq!(cuts(&[7; 3], &rule), []);
+}
+
+#[test]
+fn no_more_than_31_cuts() {
+    let rule = SMALLEST.rule(1);
+    assert_eq!(cuts(&[7; 33], &rule).len(), 30);
+    assert_eq!(cuts(&[7; 34], &rule).len(), 31);
+    assert_eq!(cuts(&[7; 35], &rule).len(), 31);
+}
+
+#[test]
+fn empty_string_is_one_empty_block_for_each_level() {
+    for levels in 1..=4 {
+        let settings = Settings {
+            levels,
+            nominal: 4_096,
+            ..MOST_NODES
+        };
+        let nodes = tree(&settings, &[]);
+        assert_eq!(nodes.len() as u64, levels + 1);
+        for (level, node) in nodes.iter().enumerate() {
+            assert_eq!((node.level, node.start, node.length), (level as u64, 0, 0));
+            assert_eq!(node.id, 0xcbf2_9ce4_8422_2325);
+        }
+    }
+}
+
+#[test]
+fn published_values() {
+    assert_eq!(fnv1a(b""), 0xcbf2_9ce4_8422_2325);
+    assert_eq!(fnv1a(b"a"), 0xaf63_dc4c_8601_ec8c);
+    assert_eq!(fnv1a(b"b"), 0xaf63_df4c_8601_f1a5);
+    assert_eq!(fnv1a(b"c"), 0xaf63_de4c_8601_eff2);
+    assert_eq!(fnv1a(b"d"), 0xaf63_d94c_8601_e773);
+    assert_eq!(fnv1a(b"e"), 0xaf63_d84c_8601_e5c0);
+    assert_eq!(fnv1a(b"f"), 0xaf63_db4c_8601_ead9);
+    assert_eq!(fnv1a(b"fo"), 0x0898_5907_b541_d342);
+    assert_eq!(fnv1a(b"foo"), 0xdcb2_7518_fed9_d577);
+    assert_eq!(fnv1a(b"foob"), 0xdd12_0e79_0c25_12af);
+    assert_eq!(fnv1a(b"fooba"), 0xcac1_65af_a2fe_f40a);
+    assert_eq!(fnv1a(b"foobar"), 0x8594_4171_f739_67e8);
+}
+
+#[test]
+fn hashing_goes_on_from_a_value() {
+    assert_eq!(fnv1a_from(BASIS, b"foobar"), fnv1a(b"foobar"));
+    assert_eq!(fnv1a_from(fnv1a(b"foo"), b"bar"), fnv1a(b"foobar"));
+}
+
+#[test]
+fn id_0_becomes_1() {
+    assert_eq!(fnv1a(&HASHES_TO_ZERO), 0);
+    assert_eq!(block_id(&HASHES_TO_ZERO), 1);
+    assert_eq!(tree(&SMALLEST, &HASHES_TO_ZERO)[0].id, 1);
+}
+
+#[test]
+fn an_entry_is_two_rows() {
+    let node = Node {
+        level: 4,
+        start: 65_535,
+        length: 65_536,
+        id: 0x0102_0304_0506_0708,
+    };
+    // 4 + 8 × (65,536 + 131,072 × 65,535) = 0xf_fff8_0004
+    let expected = [1, 2, 3, 4, 5, 6, 7, 8, 0, 0, 0, 0x0f, 0xff, 0xf8, 0, 4];
+    assert_eq!(node_table::entry(&node), expected);
+    assert_eq!(node_table::node(&expected), node);
+}
+
+#[test]
+fn the_table_is_zero_past_the_last_entry() {
+    let mut table = vec![170; 65_536 + 5];
+    let string = [0x00, 0x03, 0x00, 0x00, 0x01, 0x00];
+    assert_eq!(rcds_tree(&SMALLEST, &string, &mut table), ACCEPTED + 3);
+    assert_eq!(node_table::read(&table), tree(&SMALLEST, &string));
+    assert!(table[48..].iter().all(|&byte| byte == 0));
+}
+
+#[test]
+fn zeros_with_4096_nodes_and_with_more() {
+    let mut table = vec![170; 65_536];
+    assert_eq!(
+        rcds_tree(&MOST_NODES, &[0; 4_527], &mut table),
+        ACCEPTED + 4_096
+    );
+    assert_eq!(node_table::read(&table).len(), 4_096);
+    assert_eq!(rcds_tree(&MOST_NODES, &[0; 65_536], &mut table), 8);
+    assert!(table.iter().all(|&byte| byte == 0));
+}
+
+#[test]
+fn questions_in_their_order() {
+    let ask = |w, p, levels, nominal, string: usize, table: usize| {
+        let settings = Settings {
+            window: w,
+            fan_out: p,
+            levels,
+            nominal,
+        };
+        let mut table = vec![170; table];
+        let answer = rcds_tree(&settings, &vec![0; string], &mut table);
+        assert!(answer >= ACCEPTED || table.iter().all(|&byte| byte == 170));
+        answer
+    };
+    for w in [0, 1, 13, u64::MAX] {
+        assert_eq!(ask(w, 0, 0, 0, 65_537, 0), 1);
+    }
+    for p in [0, 1, 9, u64::MAX] {
+        assert_eq!(ask(2, p, 0, 0, 65_537, 0), 2);
+    }
+    for levels in [0, 5, u64::MAX] {
+        assert_eq!(ask(12, 2, levels, 0, 65_537, 0), 3);
+    }
+    for nominal in [0, 4_095, 65_537, u64::MAX] {
+        assert_eq!(ask(12, 8, 4, nominal, 65_537, 0), 4);
+    }
+    for nominal in [4_096, 65_536] {
+        assert_eq!(ask(12, 8, 4, nominal, 65_537, 0), 6);
+        assert_eq!(ask(12, 8, 4, nominal, 65_536, 65_535), 7);
+        assert_eq!(ask(12, 8, 4, nominal, 0, 65_536), ACCEPTED + 5);
+    }
+}

@@ -1,0 +1,32 @@
+//! The strings and lines that the program `vectors` is compared with.
+
+use reference::vectors::{fnv_lines, string, tree_lines};
+
+#[test]
+fn strings_of_each_kind() {
+    assert_eq!(string(0, 3), [0, 0, 0]);
+    assert_eq!(string(1, 3), [7, 7, 7]);
+    // x = 8 × 1 + 2, then x × 6364136223846793005 + 1442695040888963407 modulo 2^64.
+    let x = (10 * 6_364_136_223_846_793_005_u128 + 1_442_695_040_888_963_407) % (1 << 64);
+    assert_eq!(string(2, 1), [(x >> 56) as u8]);
+    assert!(string(3, 1_000).iter().all(|&byte| byte < 4));
+    assert_eq!(string(4, 7), [0, 0, 0, 8, 0, 16, 0]);
+    assert_eq!(string(4, 1_002)[998..], [0x0f, 0x98, 0x0f, 0xa0]);
+    let repeats = string(5, 100);
+    assert_eq!(repeats[37..], repeats[..63]);
+}
+
+#[test]
+fn lines_as_the_format_counts_them() {
+    assert_eq!(fnv_lines().len(), 270);
+    assert_eq!(fnv_lines()[268..], ["fnv 8 0", "id 1"]);
+    let lines = tree_lines();
+    assert_eq!(lines.len(), 410);
+    for question in [1, 2, 3, 4, 6, 8] {
+        let refused = |line: &&String| line.split(' ').nth(6) == Some(&question.to_string());
+        assert!(
+            lines.iter().any(|line| refused(&line)),
+            "{question} refuses no line"
+        );
+    }
+}
