@@ -1,11 +1,15 @@
 -- Document 01, 'Checked by hand': the cases with a star, as entries of one table. Where nothing else is said they are
 -- "With w=2, p=2, L=1, M=2 (h=1, s=4)".
-use mathlib.Core.List.{List, [], _∷_}
+use mathlib.Core.List.{List, [], _∷_, flatten}
 use Prim.Native.Nat.{ℕ, zero, suc}
 use lib.ListN.{length}
 use Rattle.partition.specs.Cuts.{windowAt, valueAt, cutsOf}
 use Rattle.tree.specs.declared.Settings.{Settings}
 use Rattle.tree.specs.Tree.{Node, nodesOf}
+use Rattle.trail.specs.Trails.{trailsOver}
+use Rattle.message.specs.Words.{referenceWord}
+use Rattle.message.specs.Fields.{textTo}
+use Rattle.message.specs.Messages.{openingQuery, encodeWords}
 
 -- What a definition gives, and what the document says.
 pub record Case : Type 0 where
@@ -24,6 +28,10 @@ valuesFrom (suc k) i bytes = valueAt 2 4 bytes i ∷ valuesFrom k (suc i) bytes
 unfoldable pub extents : List Node → List ℕ
 extents [] = []
 extents (n ∷ ns) = n .level ∷ n .start ∷ length (n .bytes) ∷ extents ns
+
+-- How many trails, and their ids one after the other.
+unfoldable pub counted : List (List ℕ) → List ℕ
+counted trails = length trails ∷ flatten trails
 
 abbrev settings : Settings
 settings = record { window = 2; «fan_out» = 2; levels = 1; nominal = 2; width = 64 }
@@ -47,4 +55,12 @@ cases =
     ∷ case (cutsOf 2 1 4 (7 ∷ 7 ∷ 7 ∷ [])) []
     -- "Empty: one empty block per level."
     ∷ case (extents (nodesOf settings [])) (0 ∷ 0 ∷ 0 ∷ 1 ∷ 0 ∷ 0 ∷ [])
+    -- "with ids a<b: pairs 0a, aa, ab, ba have two trails, a a b a then a b a a." Here a is 1, b is 2.
+    ∷ case (counted (trailsOver (0 ∷ 1 ∷ 1 ∷ 2 ∷ []) (1 ∷ 1 ∷ 2 ∷ 1 ∷ []) (1 ∷ 1 ∷ 1 ∷ 1 ∷ []))) (2 ∷ 1 ∷ 1 ∷ 2 ∷ 1 ∷ 1 ∷ 2 ∷ 1 ∷ 1 ∷ [])
+    -- "0a, bc has none." Here c is 3.
+    ∷ case (counted (trailsOver (0 ∷ 2 ∷ []) (1 ∷ 3 ∷ []) (1 ∷ 1 ∷ []))) (0 ∷ [])
+    -- "bytes 61 62 are word 0x52616200; index 4,095, count 32 is 0x4003FFE0; opening query of session 5 is 0x11000005 0x60000002."
+    ∷ case (textTo (0x61 ∷ 0x62 ∷ [])) (0x52616200 ∷ [])
+    ∷ case (referenceWord .to (record { index = 4095; count = 32 }) ∷ []) (0x4003FFE0 ∷ [])
+    ∷ case (encodeWords (openingQuery 5)) (0x11000005 ∷ 0x60000002 ∷ [])
     ∷ []

@@ -1,11 +1,11 @@
--- The blocks between cuts: joined again they are the bytes, there is one more of them than cuts, and each is a part of the bytes.
+-- The blocks between cuts: joined again they are the bytes, and there is one more of them than cuts.
 use mathlib.Core.List.{List, [], _∷_, _++_, append-nil, flatten}
 use mathlib.Core.Path.{_≡_, refl, sym, ap, _∙_}
-use Prim.Native.Nat.{ℕ, zero, suc, _+_, _-_, _≤_}
+use Prim.Native.Nat.{ℕ, suc, _+_, _-_, _≤_}
 use native.Mathlib.Nat.{add-zero}
 use native.Mathlib.Omega.{arith}
-use lib.ListN.{length, getD, take, drop, length-drop, take-append-drop}
-use lib.Seq.{drop-drop, take-all}
+use lib.ListN.{length, take, drop, take-append-drop}
+use lib.Seq.{drop-drop}
 use Rattle.partition.specs.Blocks.{blocksFrom, blocksOf}
 use Rattle.partition.specs.Cuts.{cutsOf}
 use Rattle.partition.specs.Spread.{Spread, none, cut}
@@ -40,13 +40,3 @@ module _ (w h s : ℕ) (bytes : List ℕ) where
 
   pub blocks-few : length (blocksOf w h s bytes) ≤ 32
   blocks-few = omega (arith, blocks-count, cuts-few w h s bytes)
-
--- Block number k is what lies between its start and its end.
-pub block-at : (from : ℕ) (cs bytes : List ℕ) (k : ℕ) → k ≤ length cs
-    → getD (blocksFrom from cs bytes) k []
-    ≡ take (getD (cs ++ (length bytes ∷ [])) k 0 - getD (from ∷ cs) k 0) (drop (getD (from ∷ cs) k 0) bytes)
-unfolding blocksFrom
-block-at from [] bytes zero l = sym (take-all (length bytes - from) (drop from bytes) (simp length-drop (omega arith)))
-block-at from [] bytes (suc k) l = absurd (omega arith)
-block-at from (c ∷ cs) bytes zero l = refl
-block-at from (c ∷ cs) bytes (suc k) l = block-at c cs bytes k (omega arith)

@@ -1,2 +1,3 @@
 -- What the calls from C mean.
 pub mod Calls
+pub mod Trails

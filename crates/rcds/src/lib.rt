@@ -1,6 +1,13 @@
 // What the drive's firmware calls from C: numbers and lent bytes. include/rcds.h declares these functions.
-ghost use Rattle.rcds.specs.Calls.{treeSettings};
+mod ids;
+
+ghost use mathlib.Core.Path.{_≡_};
+ghost use Rattle.message.specs.Messages.{parse};
+ghost use Rattle.message.specs.Reading.{typeAnswer};
 ghost use Rattle.tree.specs.Table.{Tabled};
+ghost use Rattle.rcds.specs.Calls.{treeSettings};
+ghost use Rattle.rcds.specs.Trails.{trailNumberAnswer, Ordered};
+use trail::Pairs;
 use tree::Settings;
 
 // Cuts a string into its tree of blocks and writes the tree to the node table. Asked are 1 to 4, 6, 7 of the node table, and 8.
@@ -23,4 +30,62 @@ pub extern "C" fn rcds_tree(
         width: 1,
     };
     tree::cut_string(settings, string, nodes)
+}
+
+// The number of the order that the ids give, each 8 bytes: 2^32 more than how many trails over its pairs come before it, or 17.
+#[no_mangle]
+pub extern "C" fn rcds_trail_number(ids: &[u8]) -> u64
+    ensures { λ r. ⌜ r ≡ trailNumberAnswer (now (ids .entry)) ⌝ }
+{
+    if ids.len() % 8 != 0 {
+        return 17;
+    }
+    let k = ids.len() / 8;
+    if 32 < k {
+        return 17;
+    }
+    let list = ids::read_column(ids, 1, 0);
+    trail::number(&list[..k])
+}
+
+// Writes the order of a number over pairs: entries of three rows, previous id, own id, count. Asked are 17 and 20.
+#[no_mangle]
+pub extern "C" fn rcds_trail_order(pairs: &[u8], number: u64, ids: &mut [u8]) -> u64
+    ensures { λ r. ⌜ Ordered (now (pairs .entry)) number (now (ids .entry)) (now (ids .exit)) r ⌝ }
+{
+    if pairs.len() % 24 != 0 {
+        return 17;
+    }
+    if 768 < pairs.len() {
+        return 17;
+    }
+    let previous = ids::read_column(pairs, 3, 0);
+    let own = ids::read_column(pairs, 3, 1);
+    let count = ids::read_column(pairs, 3, 2);
+    let trail = trail::order(
+        Pairs {
+            previous,
+            own,
+            count,
+        },
+        number,
+    );
+    let k = trail.k;
+    if k == 0 {
+        return 17;
+    }
+    if ids.len() / 8 < k {
+        return 20;
+    }
+    let list = trail.ids;
+    ids::write_ids(list, k, ids);
+    trail.answer
+}
+
+// The type of a well-formed message, 2^32 more, or 10.
+#[no_mangle]
+pub extern "C" fn rcds_message_type(message: &[u8]) -> u64
+    ensures { λ r. ⌜ r ≡ typeAnswer (parse (now (message .entry))) ⌝ }
+{
+    message::reader::message_type(message)
 }

@@ -7,7 +7,6 @@ use native.Mathlib.Nat.{not-suc-le-zero, le-of-suc-le-suc}
 use native.Mathlib.Omega.{arith}
 use lib.ListN.{length, getD, take, drop, length-append, length-drop, length-map}
 use lib.Seq.{take-at, drop-at, take-add, drop-drop, length-take-le, take-all}
-use Rattle.partition.specs.Blocks.{blocksOf}
 use Rattle.partition.proofs.Blocks.{blocks-join, blocks-some, blocks-few}
 use Rattle.tree.specs.declared.Settings.{Settings}
 use Rattle.tree.specs.Tree.{Node, node, childrenOf, inTurn, treeOf, nodesOf}

@@ -1,0 +1,2 @@
+-- Laws of writing messages.
+pub mod Writing

@@ -1,0 +1,3 @@
+-- Laws of the calls from C.
+pub mod Columns
+pub mod Answers

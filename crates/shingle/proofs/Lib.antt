@@ -1,0 +1,14 @@
+pub mod Reading
+pub mod Merging
+pub mod Siblings
+pub mod Listing
+pub mod PairOrder
+pub mod Agreement
+pub mod Counted
+pub mod Written
+pub mod Outcome
+pub mod Counts
+pub mod Rising
+pub mod Children
+pub mod Descent
+pub mod NodeTable

@@ -1,0 +1,5 @@
+pub mod Shingles
+pub mod Table
+pub mod Steps
+pub mod Rising
+pub mod Children

@@ -1,0 +1,5 @@
+pub mod Same
+pub mod Ordered
+pub mod Sinking
+pub mod Carried
+pub mod Passes

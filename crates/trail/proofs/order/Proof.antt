@@ -1,0 +1,76 @@
+-- A refusal is owed to one of the four questions; the trail is the search's, moved to the front.
+use borrow.Author.Needs.{needs}
+use Rattle.trail.proofs.Answers.{order-refused, order-found}
+use native.Mathlib.Omega.{arith}
+use mathlib.Core.Path.{refl}
+use Rattle.trail.proofs.order.Statement.{statement}
+use Rattle.trail.proofs.order.Tie as tie
+
+slice-aggregate-size : tie.Need-slice-aggregate-size
+slice-aggregate-size c = search needs
+
+size-requires : tie.Need-size-requires
+size-requires c κs = search needs
+
+refuse-requires : tie.Need-refuse-requires
+refuse-requires c κs = search needs
+
+returns : tie.Need-returns
+returns c = order-refused _ _ _ (c .refuse .ensures) (λ p q s t. omega (arith, c .before .before .size .ensures, c .before .if1 .taken))
+
+refuse-requires-2 : tie.Need-refuse-requires-2
+refuse-requires-2 c κs = search needs
+
+returns-2 : tie.Need-returns-2
+returns-2 c = order-refused _ _ _ (c .refuse2 .ensures) (λ p q s t. omega (arith, c .before .before .before .size .ensures, c .before .if2 .taken))
+
+refuse-requires-3 : tie.Need-refuse-requires-3
+refuse-requires-3 c κs = search needs
+
+returns-3 : tie.Need-returns-3
+returns-3 c = order-refused _ _ _ (c .refuse3 .ensures) (λ p q s t. omega (arith, c .before .if3 .taken))
+
+slice-aggregate-find : tie.Need-slice-aggregate-find
+slice-aggregate-find c = search needs
+
+slice-aggregate-find-2 : tie.Need-slice-aggregate-find-2
+slice-aggregate-find-2 c = search needs
+
+find-requires : tie.Need-find-requires
+find-requires c κs = (record { previous = search needs; own = search needs; count = search needs }, omega (arith, c .before .before .before .before .before .size .ensures, c .before .before .before .if2 .left), omega (arith, c .before .before .before .if2 .left))
+
+front-requires : tie.Need-front-requires
+front-requires c κs = omega (arith, c .before .before .before .before .before .before .if2 .left)
+
+add-answer : tie.Need-add-answer
+add-answer c = omega (arith, c .before .before .before .before .before .before .before .if2 .left)
+
+returns-4 : tie.Need-returns-4
+returns-4 c = order-found _ _ _ _ _ _ _ (c .before .before .before .before .before .before .before .before .before .size .ensures) (c .before .before .before .before .before .before .before .before .if1 .left) (c .before .before .before .before .before .before .before .if2 .left) (c .before .before .before .before .before .before .if3 .left) (c .before .before .before .find .ensures) (c .before .before .if4 .taken) refl refl (c .front .ensures)
+
+refuse-requires-4 : tie.Need-refuse-requires-4
+refuse-requires-4 c κs = search needs
+
+returns-5 : tie.Need-returns-5
+returns-5 c = order-refused _ _ _ (c .refuse4 .ensures) (λ p q s t. omega (arith, c .before .before .find .ensures .past (c .before .if4 .left)))
+
+pub order-spec : {M : Type 1} → statement M
+order-spec =
+    tie.close
+    (tie.spec
+    slice-aggregate-size
+    size-requires
+    refuse-requires
+    returns
+    refuse-requires-2
+    returns-2
+    refuse-requires-3
+    returns-3
+    slice-aggregate-find
+    slice-aggregate-find-2
+    find-requires
+    front-requires
+    add-answer
+    returns-4
+    refuse-requires-4
+    returns-5)

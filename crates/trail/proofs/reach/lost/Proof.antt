@@ -1,0 +1,44 @@
+-- A missed row that nothing marked leads to is in no trail (`shut-none`).
+use borrow.Author.Needs.{needs}
+use Rattle.trail.proofs.Prune.{shut-none}
+use borrow.Author.Tests.{ltb-true}
+use mathlib.Core.Bool.{false≢true}
+use Rattle.trail.proofs.reach.lost.Statement.{statement}
+use Rattle.trail.proofs.reach.lost.Tie as tie
+
+unused-rows-requires : tie.Need-unused-rows-requires
+unused-rows-requires c κs = search needs
+
+rows-from-requires : tie.Need-rows-from-requires
+rows-from-requires c κs = search needs
+
+reached-requires : tie.Need-reached-requires
+reached-requires c κs = search needs
+
+returns : tie.Need-returns
+returns c = λ e. absurd (false≢true e)
+
+marks-requires : tie.Need-marks-requires
+marks-requires c κs = search needs
+
+slice-aggregate-shut : tie.Need-slice-aggregate-shut
+slice-aggregate-shut c = search needs
+
+shut-requires : tie.Need-shut-requires
+shut-requires c κs = search needs
+
+returns-2 : tie.Need-returns-2
+returns-2 c = λ e xs f. let l = ltb-true _ _ e in shut-none _ _ _ _ (c .before .before .before .before .before .before .before .before .before .before .before .pre .0) _ _ (c .shut .ensures l .1) l (c .shut .ensures l .0) xs f
+
+pub lost-spec : {M : Type 1} → statement M
+lost-spec =
+    tie.close
+    (tie.spec
+    unused-rows-requires
+    rows-from-requires
+    reached-requires
+    returns
+    marks-requires
+    slice-aggregate-shut
+    shut-requires
+    returns-2)

@@ -1,0 +1,95 @@
+// Trails: a node's children travel as an unordered multiset of pairs and one number, which together give back their order.
+// `number` says which of the multiset's trails an order is, and `order` gives the trail of a number.
+mod rank;
+mod reach;
+mod table;
+mod walk;
+
+use rank::chain;
+use rank::nonzero;
+use rank::rank;
+use table::size;
+use walk::find;
+use walk::front;
+ghost use mathlib.Core.Path.{_≡_};
+ghost use Rattle.trail.specs.Calls.{numberAnswer, orderAnswer, refusal};
+
+// A multiset of pairs (previous id, own id) with counts, in rows: in any order, and rows of the same pair add up.
+// A row of count 0 holds nothing.
+pub struct Pairs {
+    pub previous: [u64; 32],
+    pub own: [u64; 32],
+    pub count: [u64; 32],
+}
+
+// A trail: 2^32 + k and its k ids, zeros after them; or the number of the question that refuses it, and no ids.
+pub struct Trail {
+    pub answer: u64,
+    pub k: usize,
+    pub ids: [u64; 32],
+}
+
+// The number of an order: how many trails over its pairs come before it, 4,096 for every number above 4,095, and 2^32 more
+// to tell it from a refusal; or 17 unless there are 1 to 32 ids, none of them 0.
+pub fn number(ids: &[u64]) -> u64
+    ensures { λ r. ⌜ r ≡ numberAnswer (now (ids .entry)) ⌝ }
+{
+    if ids.len() == 0 {
+        return 17;
+    }
+    if 32 < ids.len() {
+        return 17;
+    }
+    if nonzero(ids) {
+        let pairs = chain(ids);
+        let previous = pairs.previous;
+        let own = pairs.own;
+        let count = pairs.count;
+        return 4294967296 + rank(&previous, &own, count, ids);
+    }
+    17
+}
+
+// The answer of question 17's no.
+fn refuse() -> Trail
+    ensures { λ r. ⌜ r ≡ refusal ⌝ }
+{
+    Trail {
+        answer: 17,
+        k: 0,
+        ids: [0; 32],
+    }
+}
+
+// The order of a number: the trail over these pairs that so many come before. Refused unless there are 1 to 32 pairs, the
+// number is at most 4,095 and the trail exists.
+pub fn order(pairs: Pairs, number: u64) -> Trail
+    ensures { λ r. ⌜ r ≡ orderAnswer pairs number ⌝ }
+{
+    let previous = pairs.previous;
+    let own = pairs.own;
+    let count = pairs.count;
+    let k = size(&count);
+    if k == 0 {
+        return refuse();
+    }
+    if 32 < k {
+        return refuse();
+    }
+    if 4095 < number {
+        return refuse();
+    }
+    let places = k as usize;
+    let outcome = find(&previous, &own, count, places, number);
+    if outcome.found {
+        let last = outcome.ids;
+        let ids = front(last, places);
+        let answer = 4294967296 + k;
+        return Trail {
+            answer,
+            k: places,
+            ids,
+        };
+    }
+    refuse()
+}
