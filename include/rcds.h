@@ -4,7 +4,9 @@
  *
  * A string is cut into blocks where its own bytes say so, each block is cut
  * again, level by level, and the blocks form a tree. Equal stretches of two
- * strings are cut into equal blocks, which have equal ids.
+ * strings are cut into equal blocks, which have equal ids. The order of a
+ * node's children travels as the multiset of their pairs and one number, in
+ * messages that are rows of 32-bit words.
  *
  * What holds for every call:
  *
@@ -19,8 +21,8 @@
  *
  * Answers. A call answers a uint64_t. From 1 to 2^32 - 1 it is the number of
  * the first question that had a no, and the call is refused. Otherwise the
- * call is accepted, and the low 32 bits are a count. RCDS_ACCEPTED and
- * RCDS_COUNT tell them apart.
+ * call is accepted, and the low 32 bits are a count, or the small number that
+ * the call is made for. RCDS_ACCEPTED and RCDS_COUNT tell them apart.
  *
  * Questions. They are asked in this order, and the first no is the answer:
  *
@@ -31,6 +33,14 @@
  *   6  string of at most RCDS_MAX_STRING bytes?
  *   7  node table of at least RCDS_NODES_BYTES bytes?
  *   8  tree of at most RCDS_MAX_NODES nodes?
+ *  10  message well formed: whole words, kinds, order, fixed bits, first part
+ *      of a 64-bit value at most 255, cells as many as its q, reference counts
+ *      1 to 32, no index twice, end right, nothing after it?
+ *  17  order: whole ids, 1 to RCDS_MAX_CHILDREN of them, none of them 0?
+ *      multiset: whole entries, at most RCDS_MAX_CHILDREN of them, counts that
+ *      add up to 1 to RCDS_MAX_CHILDREN, number at most RCDS_MAX_TRAIL_NUMBER,
+ *      and a trail of that number?
+ *  20  room for what is written?
  */
 #ifndef RCDS_H
 #define RCDS_H
@@ -53,6 +63,24 @@ extern "C" {
 
 /* The bytes that a node table needs: RCDS_MAX_NODES entries. */
 #define RCDS_NODES_BYTES 65536
+
+/* The most children that a node has. */
+#define RCDS_MAX_CHILDREN 32
+
+/* The largest number that the order of a node's children is sent with. */
+#define RCDS_MAX_TRAIL_NUMBER 4095
+
+/* The bytes of one id. */
+#define RCDS_ID_BYTES 8
+
+/* The bytes that are always enough for the ids of a node's children. */
+#define RCDS_TRAIL_IDS_BYTES 256
+
+/* The bytes of one pair with its count. */
+#define RCDS_PAIR_BYTES 24
+
+/* The most bytes that a multiset of pairs may have: RCDS_MAX_CHILDREN pairs. */
+#define RCDS_TRAIL_PAIRS_BYTES 768
 
 /*
  * Whether the answer r says that the call was accepted: r is 0, or at least
@@ -142,6 +170,78 @@ static inline uint64_t rcds_node_start(const uint8_t *nodes, size_t k)
 {
     return rcds_row(nodes, 2 * k + 1) >> 20 & 0x1ffff;
 }
+
+/*
+ * Trails.
+ *
+ * A node's children, from the left, are an order of ids. Each child gives the
+ * pair of its left sibling's id, 0 for the first child, and its own id. A trail
+ * over a multiset of pairs is an order whose pairs are exactly these. Trails
+ * are sorted by ids, first id first, unsigned; the number of a trail is how
+ * many come before it. So the pairs, in any order, and the number give the
+ * order again.
+ *
+ * Ids and counts are rows of 64 bits, most significant byte first.
+ */
+
+/*
+ * rcds_trail_number - the number of an order of ids.
+ *
+ * ids          the ids in their order, RCDS_ID_BYTES each, ids_len bytes in
+ *              all. Not changed.
+ *
+ * Asks 17.
+ *
+ * Accepted: RCDS_COUNT of the answer is the order's number among the trails
+ * over its own pairs, or 4,096 for every number above RCDS_MAX_TRAIL_NUMBER.
+ * Such an order cannot be sent by its number.
+ */
+uint64_t rcds_trail_number(const uint8_t *ids, size_t ids_len);
+
+/*
+ * rcds_trail_order - the order of a number.
+ *
+ * pairs        the multiset, pairs_len bytes: entries of RCDS_PAIR_BYTES bytes,
+ *              which are three rows, previous id, own id and count. Entries
+ *              come in any order, the counts of equal pairs add up, and an
+ *              entry of count 0 holds nothing. Any ids are taken, 0 too. Not
+ *              changed.
+ * number       the number of the trail.
+ * ids          where the ids go, ids_len bytes. RCDS_TRAIL_IDS_BYTES are
+ *              enough for every answer.
+ *
+ * Asks 17, then 20: RCDS_ID_BYTES for each of the ids.
+ *
+ * Accepted: RCDS_COUNT of the answer is how many ids there are, the sum of the
+ * counts, 1 to RCDS_MAX_CHILDREN. They stand at the start of ids, in their
+ * order. The bytes after them are unchanged.
+ *
+ * Refused: ids is unchanged.
+ *
+ * The time is bounded for every content of pairs: no branch is entered that
+ * has no trail, and no trail is walked past the one wanted.
+ */
+uint64_t rcds_trail_order(const uint8_t *pairs, size_t pairs_len,
+                          uint64_t number, uint8_t *ids, size_t ids_len);
+
+/*
+ * rcds_message_type - whether bytes are a message, and of which type.
+ *
+ * message      the bytes, message_len of them: the message and nothing else.
+ *              Not changed.
+ *
+ * Asks 10.
+ *
+ * Accepted: RCDS_COUNT of the answer is the type: 1 opening query, 2 node
+ * query, 3 opening, 4 composition, 5 literal, 6 none.
+ *
+ * A message is well formed whatever its numbers mean. Whether its settings,
+ * levels, lengths and trail number can be used is asked by the end that takes
+ * it.
+ *
+ * The time grows in proportion to message_len, whatever the bytes are.
+ */
+uint64_t rcds_message_type(const uint8_t *message, size_t message_len);
 
 #ifdef __cplusplus
 }

@@ -1,20 +1,36 @@
-//! What `rcds_tree` costs: a table in markdown, and the worst figures in three sentences.
+//! What the calls of the static library cost.
 //!
-//! A cost is counted in plain FNV-1a passes over the same bytes, which are timed in turn with the
-//! calls. All figures are ratios of such costs. Nothing here fails because of a time; a wrong
-//! answer stops the run.
+//!     bench [GROUP...]
+//!
+//! The groups are `tree` and `trails`; none stands for all that are built in. A group is built in
+//! by the feature of its name, and all are, unless cargo is told otherwise.
+//!
+//! A cost is counted in plain FNV-1a passes, which are timed in turn with the calls. Nothing here
+//! fails because of a time; a wrong answer stops the run.
 
 mod clock;
-mod measure;
-mod strings;
-mod table;
+mod pass;
+#[cfg(feature = "trails")]
+mod trails;
+#[cfg(feature = "tree")]
+mod tree;
+
+const GROUPS: &[(&str, fn())] = &[
+    #[cfg(feature = "tree")]
+    ("tree", tree::run),
+    #[cfg(feature = "trails")]
+    ("trails", trails::run),
+];
 
 fn main() {
-    let strings = strings::all();
-    let rows: Vec<measure::Row> = table::settings()
-        .iter()
-        .map(|settings| measure::row(settings, &strings))
-        .collect();
-    table::print(&rows);
-    table::print_worst(&rows);
+    let names: Vec<String> = std::env::args().skip(1).collect();
+    for name in &names {
+        let known = GROUPS.iter().any(|(group, _)| group == name);
+        assert!(known, "{name}: no group of this name is built in");
+    }
+    for (group, run) in GROUPS {
+        if names.is_empty() || names.iter().any(|name| name == group) {
+            run();
+        }
+    }
 }

@@ -21,7 +21,7 @@ from-zeros (suc zero) = refl
 from-zeros (suc (suc zero)) = refl
 from-zeros (suc (suc (suc n))) = refl
 
-pub words-zeros : (n : ℕ) → (k : ℕ) × (wordsOf (replicate n 0) ≡ replicate k 0)
+words-zeros : (n : ℕ) → (k : ℕ) × (wordsOf (replicate n 0) ≡ replicate k 0)
 unfolding wordsOf
 words-zeros zero = (0, refl)
 words-zeros (suc zero) = (0, refl)

@@ -1,14 +1,12 @@
-//! Compares a function of the C interface with the reference, on many cases: every answer, every
+//! Compares functions of the C interface with the reference, on many cases: every answer, every
 //! byte of each lent buffer, and guard bytes on both sides of it.
 //!
-//! The function is an argument, so that the comparison itself is tested on functions that are
-//! wrong on purpose.
+//! The functions are arguments, so that the comparison itself is tested on functions that are
+//! wrong on purpose. One module for each group of calls.
 
-pub mod cases;
-pub mod compare;
-pub mod content;
+pub mod failure;
+pub mod lent;
+pub mod messages;
 pub mod random;
-pub mod report;
-
-#[cfg(test)]
-mod faults;
+pub mod trails;
+pub mod tree;

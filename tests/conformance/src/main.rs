@@ -1,63 +1,135 @@
-//! Compares `rcds_tree` of the static library with the reference.
+//! Compares the calls of the static library with the reference.
 //!
-//!     conformance [SEED [CASE]]
+//!     conformance [GROUP...] [SEED [CASE]]
 //!
-//! Without a case it runs all of them and prints a line; it stops at the first that differs. With
-//! a case it runs that one alone.
+//! The groups are `tree`, `trails` and `messages`; none stands for all that are built in. Without a
+//! case it runs all of them and prints a line for each call; it stops at the first that differs.
+//! With a case, and then with one group, it runs that case alone.
+//!
+//! A group is built in by the feature of its name. All are, unless cargo is told otherwise.
 
-use conformance::cases::case;
-use conformance::compare::compare;
-use conformance::report::{run, Failure};
+use conformance::failure::Failure;
 use std::process::ExitCode;
-
-extern "C" {
-    fn rcds_tree(
-        w: u64,
-        p: u64,
-        levels: u64,
-        nominal: u64,
-        string: *const u8,
-        string_len: usize,
-        nodes: *mut u8,
-        nodes_len: usize,
-    ) -> u64;
-}
 
 const SEED: u64 = 20_250_101;
 
-fn main() -> ExitCode {
-    let mut numbers = std::env::args()
-        .skip(1)
-        .map(|text| text.parse::<u64>().expect("a number"));
-    let seed = numbers.next().unwrap_or(SEED);
-    let result = match numbers.next() {
-        Some(number) => run_one(seed, number as usize),
-        None => run_all(seed),
+/// Runs a group: all cases of the seed, or one.
+type Run = fn(u64, Option<usize>) -> Result<Vec<String>, Failure>;
+
+const GROUPS: &[(&str, Run)] = &[
+    #[cfg(feature = "tree")]
+    ("tree", tree::run),
+    #[cfg(feature = "trails")]
+    ("trails", trails::run),
+    #[cfg(feature = "messages")]
+    ("messages", messages::run),
+];
+
+#[cfg(feature = "tree")]
+mod tree {
+    use conformance::failure::Failure;
+    use conformance::tree::{run_all, run_one};
+
+    extern "C" {
+        fn rcds_tree(
+            w: u64,
+            p: u64,
+            levels: u64,
+            nominal: u64,
+            string: *const u8,
+            string_len: usize,
+            nodes: *mut u8,
+            nodes_len: usize,
+        ) -> u64;
+    }
+
+    pub fn run(seed: u64, case: Option<usize>) -> Result<Vec<String>, Failure> {
+        match case {
+            None => run_all(seed, rcds_tree),
+            Some(number) => run_one(seed, number, rcds_tree),
+        }
+    }
+}
+
+#[cfg(feature = "trails")]
+mod trails {
+    use conformance::failure::Failure;
+    use conformance::trails::{run_all, run_one, Calls};
+
+    extern "C" {
+        fn rcds_trail_number(ids: *const u8, ids_len: usize) -> u64;
+        fn rcds_trail_order(
+            pairs: *const u8,
+            pairs_len: usize,
+            number: u64,
+            ids: *mut u8,
+            ids_len: usize,
+        ) -> u64;
+    }
+
+    const CALLS: Calls = Calls {
+        number: rcds_trail_number,
+        order: rcds_trail_order,
     };
-    match result {
-        Ok(line) => {
-            println!("rcds_tree, seed {seed}: {line}");
-            ExitCode::SUCCESS
-        }
-        Err(failure) => {
-            println!("rcds_tree: {failure}");
-            ExitCode::FAILURE
+
+    pub fn run(seed: u64, case: Option<usize>) -> Result<Vec<String>, Failure> {
+        match case {
+            None => run_all(seed, CALLS),
+            Some(number) => run_one(seed, number, CALLS),
         }
     }
 }
 
-fn run_all(seed: u64) -> Result<String, Failure> {
-    let report = run(seed, rcds_tree)?;
-    report.assert_complete();
-    Ok(report.to_string())
+#[cfg(feature = "messages")]
+mod messages {
+    use conformance::failure::Failure;
+    use conformance::messages::{run_all, run_one};
+
+    extern "C" {
+        fn rcds_message_type(message: *const u8, message_len: usize) -> u64;
+    }
+
+    pub fn run(seed: u64, case: Option<usize>) -> Result<Vec<String>, Failure> {
+        match case {
+            None => run_all(seed, rcds_message_type),
+            Some(number) => run_one(seed, number, rcds_message_type),
+        }
+    }
 }
 
-fn run_one(seed: u64, number: usize) -> Result<String, Failure> {
-    let case = case(seed, number);
-    match compare(&case, rcds_tree) {
-        Ok(answer) => Ok(format!(
-            "case {number} as the reference has it: answer {answer}"
-        )),
-        Err(difference) => Err(Failure { case, difference }),
+/// The groups of these names, or all. A name that is not built in ends the program.
+fn chosen(names: &[String]) -> Vec<Run> {
+    let group = |name: &String| match GROUPS.iter().find(|(known, _)| known == name) {
+        Some(&(_, run)) => run,
+        None => panic!("{name}: no group of this name is built in"),
+    };
+    match names {
+        [] => GROUPS.iter().map(|&(_, run)| run).collect(),
+        _ => names.iter().map(group).collect(),
     }
+}
+
+fn main() -> ExitCode {
+    let arguments: Vec<String> = std::env::args().skip(1).collect();
+    let is_number = |text: &String| text.parse::<u64>().is_ok();
+    let names = arguments.iter().take_while(|text| !is_number(text)).count();
+    let number = |text: &String| text.parse::<u64>().expect("a number");
+    let numbers: Vec<u64> = arguments[names..].iter().map(number).collect();
+    let runs = chosen(&arguments[..names]);
+    let seed = numbers.first().copied().unwrap_or(SEED);
+    let case = numbers.get(1).map(|&case| case as usize);
+    assert!(
+        case.is_none() || runs.len() == 1,
+        "a case is one of a group"
+    );
+    for run in runs {
+        match run(seed, case) {
+            Ok(lines) => lines.iter().for_each(|line| println!("{line}")),
+            Err(failure) => {
+                println!("{failure}");
+                return ExitCode::FAILURE;
+            }
+        }
+    }
+    ExitCode::SUCCESS
 }

@@ -1,5 +1,13 @@
 //! A generator of random numbers that gives the same ones everywhere (SplitMix64).
 
+/// The place of a number among `count` places, each of which is taken once: neighbours come to
+/// stand far from each other.
+pub fn mixed(number: usize, count: usize) -> usize {
+    const PRIME: usize = 15_485_863;
+    assert!(count % PRIME != 0 && number < count);
+    number * (PRIME % count) % count
+}
+
 /// The generator's state.
 #[derive(Clone)]
 pub struct Random(u64);

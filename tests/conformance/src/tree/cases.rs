@@ -1,8 +1,10 @@
 //! The cases: settings, string and table size, each made from the seed and the case's number alone.
 
-use crate::content::{self, Content, KINDS};
-use crate::random::Random;
+use super::content::{self, Content, KINDS};
+use crate::failure::first_bytes;
+use crate::random::{mixed, Random};
 use reference::settings::Settings;
+use std::fmt;
 
 /// One call.
 pub struct Case {
@@ -15,6 +17,24 @@ pub struct Case {
     /// How far the lent pieces are moved in memory, so that most of them are not aligned.
     pub string_shift: usize,
     pub table_shift: usize,
+}
+
+impl fmt::Display for Case {
+    fn fmt(&self, f: &mut fmt::Formatter) -> fmt::Result {
+        let settings = &self.settings;
+        writeln!(
+            f,
+            "w={} p={} levels={} nominal={}, {:?} string of {} bytes, node table of {} bytes",
+            settings.window,
+            settings.fan_out,
+            settings.levels,
+            settings.nominal,
+            self.content,
+            self.string.len(),
+            self.table_length,
+        )?;
+        write!(f, "the string:{}", first_bytes(&self.string, 32))
+    }
 }
 
 /// The bytes of a node table with room for 4,096 nodes.
@@ -32,13 +52,15 @@ const LEVELS: [u64; 8] = [0, 1, 4, 5, 64, 256 + 1, (1 << 32) + 1, u64::MAX];
 /// How many nominal lengths `edge_nominal` has.
 const NOMINALS: usize = 8;
 
-/// With w=2 p=8 L=4 M=4,096 a string of 4,527 zeros has 4,096 nodes. The first of the lengths around
-/// it, and how many they are.
+/// With w=2 p=8 L=4 M=4,096 a string of 4,527 equal bytes has 4,096 nodes. The first of the lengths
+/// around it, and how many they are.
+const FULL: usize = 4_527;
 const LIMIT_FROM: usize = 4_500;
 const LIMIT_LENGTHS: usize = 60;
 
-/// The families of cases, in the order in which they run, and how many cases each has.
-const FAMILIES: [(Family, usize); 9] = [
+/// The families of cases, and how many cases each has.
+const FAMILIES: [(Family, usize); 10] = [
+    (Family::Full, 40),
     (Family::AtTheLimit, 4 * LIMIT_LENGTHS),
     (Family::EdgeSettings, 8 * 8 * 8 * NOMINALS),
     (Family::EdgeNominals, 3 * 7 * 4 * NOMINALS),
@@ -52,6 +74,8 @@ const FAMILIES: [(Family, usize); 9] = [
 
 #[derive(Clone, Copy)]
 enum Family {
+    /// Equal bytes that have exactly 4,096 nodes.
+    Full,
     /// Strings that have about 4,096 nodes.
     AtTheLimit,
     /// Every combination of settings at or past the ends of what is allowed.
@@ -77,9 +101,9 @@ pub fn count() -> usize {
     FAMILIES.iter().map(|(_, count)| count).sum()
 }
 
-/// The case of this number.
+/// The case of this number. The families are mixed, so that each of them comes early in a run.
 pub fn case(seed: u64, number: usize) -> Case {
-    let mut place = number;
+    let mut place = mixed(number, count());
     for (family, count) in FAMILIES {
         if place < count {
             return family_case(family, place, seed, number);
@@ -93,7 +117,7 @@ fn family_case(family: Family, place: usize, seed: u64, number: usize) -> Case {
     let mut random = Random::of_case(seed, number);
     let random = &mut random;
     let settings = match family {
-        Family::AtTheLimit => most_nodes(),
+        Family::Full | Family::AtTheLimit => most_nodes(),
         Family::EdgeSettings => edge_settings(place),
         Family::EdgeNominals => edge_nominals(place, random),
         Family::AllSettings => {
@@ -104,6 +128,7 @@ fn family_case(family: Family, place: usize, seed: u64, number: usize) -> Case {
         Family::TableSizes | Family::TooLong | Family::Middle | Family::Long => any_allowed(random),
     };
     let length = match family {
+        Family::Full => FULL,
         Family::AtTheLimit => LIMIT_FROM + place % LIMIT_LENGTHS,
         Family::TooLong => random.one_of(&[LONGEST + 1, LONGEST + 2, 70_000, 131_072, 200_000]),
         Family::ManyNodes => random.by_size(3_000, LONGEST as u64) as usize,
@@ -115,13 +140,14 @@ fn family_case(family: Family, place: usize, seed: u64, number: usize) -> Case {
         Family::TableSizes | Family::AllSettings => any_length(&settings, 0, 1_200, random),
     };
     let content = match family {
+        Family::Full => [Content::Zeros, Content::AllEqual][place % 2],
         Family::AtTheLimit if place < LIMIT_LENGTHS => Content::Zeros,
         Family::ManyNodes => random.one_of(&[Content::Zeros, Content::AllEqual, Content::Edited]),
         Family::Middle | Family::Long => KINDS[place % KINDS.len()],
         _ => random.one_of(&KINDS),
     };
     let table_length = match family {
-        Family::EdgeSettings | Family::TableSizes => any_table(random),
+        Family::EdgeSettings | Family::TableSizes | Family::TooLong => any_table(random),
         _ => random.one_of(&[TABLE, TABLE, TABLE, TABLE + 1, TABLE + 16, TABLE + 40]),
     };
     Case {

@@ -1,8 +1,9 @@
 //! Runs all cases of a seed and counts what they were.
 
-use crate::cases::{case, count, Case};
-use crate::compare::{compare, Difference, Tree};
-use crate::content::KINDS;
+use super::cases::{case, Case};
+use super::compare::{compare, Tree};
+use super::content::KINDS;
+use crate::failure::Failure;
 use reference::rcds::ACCEPTED;
 use std::collections::BTreeMap;
 use std::fmt;
@@ -23,21 +24,13 @@ pub struct Report {
     pub longest: usize,
 }
 
-/// A case in which the function differs from the reference.
-pub struct Failure {
-    pub case: Case,
-    pub difference: Difference,
-}
-
-/// Runs every case, up to the first that differs.
-pub fn run(seed: u64, function: Tree) -> Result<Report, Failure> {
+/// Runs the first cases, so many of them, up to the first that differs.
+pub fn run(seed: u64, cases: usize, function: Tree) -> Result<Report, Failure> {
     let mut report = Report::default();
-    for number in 0..count() {
+    for number in 0..cases {
         let case = case(seed, number);
-        match compare(&case, function) {
-            Ok(answer) => report.add(&case, answer),
-            Err(difference) => return Err(Failure { case, difference }),
-        }
+        let answer = compare(&case, function)?;
+        report.add(&case, answer);
     }
     Ok(report)
 }
@@ -60,7 +53,6 @@ impl Report {
 
     /// That every answer and every content did occur, so that the run had something to find.
     pub fn assert_complete(&self) {
-        assert!(self.cases >= 20_000, "only {} cases ran", self.cases);
         assert!(self.accepted > 0, "no case was accepted");
         assert!(self.full > 0, "no tree had 4,096 nodes");
         assert!(self.longest > 0, "no string of 65,536 bytes was accepted");
@@ -104,33 +96,5 @@ impl fmt::Display for Report {
             list(refused.collect()),
             list(contents.collect()),
         )
-    }
-}
-
-impl fmt::Display for Failure {
-    fn fmt(&self, f: &mut fmt::Formatter) -> fmt::Result {
-        let Failure { case, difference } = self;
-        let settings = &case.settings;
-        writeln!(
-            f,
-            "case {} of seed {} differs: {difference}",
-            case.number, case.seed
-        )?;
-        writeln!(
-            f,
-            "w={} p={} levels={} nominal={}, {:?} string of {} bytes, node table of {} bytes",
-            settings.window,
-            settings.fan_out,
-            settings.levels,
-            settings.nominal,
-            case.content,
-            case.string.len(),
-            case.table_length,
-        )?;
-        write!(f, "the string's first bytes:")?;
-        case.string
-            .iter()
-            .take(32)
-            .try_for_each(|byte| write!(f, " {byte:02x}"))
     }
 }

@@ -1,7 +1,7 @@
 //! The settings that are measured, and what is printed of them.
 
-use crate::measure::{Cost, Row};
-use crate::strings::{CONTENTS, SIZES};
+use super::measure::{Cost, Row};
+use super::strings::{CONTENTS, SIZES};
 use reference::settings::Settings;
 
 const ZEROS: usize = 0;

@@ -1,9 +1,9 @@
 //! Costs of one setting over all strings.
 
 use crate::clock::seconds;
+use crate::pass::call_and_pass;
 use reference::settings::Settings;
 use std::hint::black_box;
-use std::time::{Duration, Instant};
 
 extern "C" {
     fn rcds_tree(
@@ -34,33 +34,6 @@ pub struct Cost {
 pub struct Row {
     pub settings: Settings,
     pub costs: Vec<Vec<Cost>>,
-}
-
-/// One plain pass of FNV-1a: the least that any hashing of the blocks can cost.
-fn fnv_pass(bytes: &[u8]) -> u64 {
-    bytes
-        .iter()
-        .fold(14_695_981_039_346_656_037, |value, &byte| {
-            (value ^ u64::from(byte)).wrapping_mul(1_099_511_628_211)
-        })
-}
-
-/// The least times of one call and of one pass over the bytes, taken in turn: at least 7 rounds,
-/// and rounds for 40 ms. Short strings are repeated, so that the clock's own time does not count.
-fn call_and_pass(bytes: &[u8], mut call: impl FnMut()) -> (f64, f64) {
-    let repetitions = (65_536 / bytes.len()).max(1);
-    let begun = Instant::now();
-    let (mut least_call, mut least_pass) = (f64::INFINITY, f64::INFINITY);
-    let mut rounds = 0;
-    while rounds < 7 || begun.elapsed() < Duration::from_millis(40) {
-        least_call = least_call.min(seconds(repetitions, &mut call));
-        let pass = || {
-            black_box(fnv_pass(black_box(bytes)));
-        };
-        least_pass = least_pass.min(seconds(repetitions, pass));
-        rounds += 1;
-    }
-    (least_call, least_pass)
 }
 
 /// The call, on slices.
@@ -96,7 +69,8 @@ pub fn row(settings: &Settings, strings: &[Vec<Vec<u8>>]) -> Row {
 fn cost(settings: &Settings, string: &[u8], with_reference: bool) -> Cost {
     let mut nodes = vec![0; 65_536];
     let mut answer = 0;
-    let (call, pass) = call_and_pass(string, || {
+    let repetitions = (65_536 / string.len()).max(1);
+    let (call, pass) = call_and_pass(repetitions, string, || {
         answer = black_box(tree(settings, black_box(string), &mut nodes));
     });
     let reference = with_reference.then(|| {

@@ -1,0 +1,126 @@
+//! Costs of one multiset.
+
+use super::multisets::{trails, Asked};
+use crate::clock::seconds;
+use crate::pass::call_and_pass;
+use reference::rcds::ACCEPTED;
+use std::hint::black_box;
+
+extern "C" {
+    fn rcds_trail_number(ids: *const u8, ids_len: usize) -> u64;
+    fn rcds_trail_order(
+        pairs: *const u8,
+        pairs_len: usize,
+        number: u64,
+        ids: *mut u8,
+        ids_len: usize,
+    ) -> u64;
+}
+
+/// The time of one call in microseconds, and in FNV-1a passes over 64 KiB.
+#[derive(Clone, Copy)]
+pub struct Cost {
+    pub microseconds: f64,
+    pub passes: f64,
+}
+
+/// What one multiset cost.
+pub struct Row {
+    pub name: String,
+    /// The sum of the counts.
+    pub ids: u64,
+    pub trails: u128,
+    pub number: u64,
+    pub answer: u64,
+    /// Of the number's order.
+    pub order: Cost,
+    /// Of the order's number, where there is one.
+    pub back: Option<Cost>,
+}
+
+/// Rows as bytes.
+pub fn bytes<'a>(rows: impl IntoIterator<Item = &'a u64>) -> Vec<u8> {
+    rows.into_iter().flat_map(|row| row.to_be_bytes()).collect()
+}
+
+/// One call, and that its answer is the reference's: the answer, the ids, and the seconds that it
+/// took.
+pub fn order(pairs: &[u8], number: u64) -> (u64, Vec<u8>, f64) {
+    let mut ids = vec![0; 256];
+    let mut answer = 0;
+    let time = seconds(1, || {
+        answer = black_box(call_order(black_box(pairs), number, &mut ids));
+    });
+    let mut expected = vec![0; 256];
+    let expected_answer = reference::rcds::rcds_trail_order(pairs, number, &mut expected);
+    assert!(
+        answer == expected_answer && ids == expected,
+        "a wrong order"
+    );
+    ids.truncate(8 * answer.saturating_sub(ACCEPTED) as usize);
+    (answer, ids, time)
+}
+
+/// The call on slices.
+fn call_order(pairs: &[u8], number: u64, ids: &mut [u8]) -> u64 {
+    // Both slices are there in full, and they do not overlap.
+    unsafe {
+        rcds_trail_order(
+            pairs.as_ptr(),
+            pairs.len(),
+            number,
+            ids.as_mut_ptr(),
+            ids.len(),
+        )
+    }
+}
+
+/// The call on a slice.
+fn call_number(ids: &[u8]) -> u64 {
+    // The slice is there in full.
+    unsafe { rcds_trail_number(ids.as_ptr(), ids.len()) }
+}
+
+/// Times a call in turn with passes over 64 KiB; a short call is repeated.
+fn cost(mut call: impl FnMut()) -> Cost {
+    let once = seconds(1, &mut call);
+    let repetitions = (0.000_1 / once.max(1e-8)).clamp(1.0, 1_000.0) as usize;
+    let (call, pass) = call_and_pass(repetitions, &[7; 65_536], call);
+    Cost {
+        microseconds: call * 1e6,
+        passes: call / pass,
+    }
+}
+
+/// The cost of the order of a number.
+pub fn order_cost(pairs: &[u8], number: u64) -> Cost {
+    let mut ids = vec![0; 256];
+    cost(|| {
+        black_box(call_order(black_box(pairs), number, &mut ids));
+    })
+}
+
+/// The cost of the number of an order, and that it is the reference's.
+pub fn number_cost(ids: &[u8]) -> (u64, Cost) {
+    let answer = call_number(ids);
+    assert_eq!(answer, reference::rcds::rcds_trail_number(ids));
+    let cost = cost(|| {
+        black_box(call_number(black_box(ids)));
+    });
+    (answer, cost)
+}
+
+/// Measures one multiset, and the way back from its order.
+pub fn row(asked: &Asked) -> Row {
+    let pairs = bytes(asked.entries.iter().flatten());
+    let (answer, ids, _) = order(&pairs, asked.number);
+    Row {
+        name: asked.name.clone(),
+        ids: asked.entries.iter().map(|entry| entry[2]).sum(),
+        trails: trails(&asked.entries),
+        number: asked.number,
+        answer,
+        order: order_cost(&pairs, asked.number),
+        back: (answer >= ACCEPTED).then(|| number_cost(&ids).1),
+    }
+}

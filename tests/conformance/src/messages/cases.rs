@@ -1,0 +1,235 @@
+//! The cases: messages and what is left of them, each made from the seed and the case's number
+//! alone.
+
+use super::damage::{damaged, Damage};
+use super::valid::{message, Sizes, LARGE, MEGABYTE, SMALL};
+use crate::failure::first_bytes;
+use crate::random::{mixed, Random};
+use reference::message::encode;
+use std::fmt;
+
+/// One call.
+pub struct Case {
+    pub seed: u64,
+    pub number: usize,
+    pub family: Family,
+    pub message: Vec<u8>,
+    /// How far the message is moved in memory, so that most of them are not aligned.
+    pub shift: usize,
+}
+
+impl fmt::Display for Case {
+    fn fmt(&self, f: &mut fmt::Formatter) -> fmt::Result {
+        let bytes = first_bytes(&self.message, 96);
+        write!(f, "{:?}, {} bytes:{bytes}", self.family, self.message.len())
+    }
+}
+
+/// What the message of a case is.
+#[derive(Clone, Copy, Debug, PartialEq, Eq, PartialOrd, Ord)]
+pub enum Family {
+    /// Well formed, of each type, and small.
+    Valid,
+    /// The words of one type under the head of another, or of no type.
+    Retyped,
+    /// Small, with one kind of damage.
+    Damaged(Damage),
+    /// Small, with damage of two kinds.
+    DamagedTwice,
+    /// A head, words of any kinds, and an end that is right.
+    AnyWords,
+    /// Any bytes, few or none.
+    AnyBytes,
+    /// An opening of few cells, with a q that is right modulo a power of two only.
+    WrappedWidth,
+    /// All 4,096 references, and one more.
+    AllReferences,
+    /// As large as both ends exchange them, well formed or with damage.
+    Large,
+    /// About a megabyte, well formed or with damage.
+    Megabyte,
+}
+
+/// The kinds of damage.
+const DAMAGES: [Damage; 9] = [
+    Damage::Bits,
+    Damage::Bytes,
+    Damage::Words,
+    Damage::Edges,
+    Damage::Dropped,
+    Damage::Repeated,
+    Damage::Swapped,
+    Damage::Cut,
+    Damage::Lengthened,
+];
+
+/// The families, and how many cases each has.
+const FAMILIES: [(Family, usize); 18] = [
+    (Family::Valid, 24_000),
+    (Family::Retyped, 6 * 16 * 20),
+    (Family::Damaged(Damage::Edges), 36_000),
+    (Family::Damaged(Damage::Bits), 24_000),
+    (Family::Damaged(Damage::Bytes), 18_000),
+    (Family::Damaged(Damage::Words), 18_000),
+    (Family::Damaged(Damage::Dropped), 18_000),
+    (Family::Damaged(Damage::Repeated), 18_000),
+    (Family::Damaged(Damage::Swapped), 12_000),
+    (Family::Damaged(Damage::Cut), 9_000),
+    (Family::Damaged(Damage::Lengthened), 9_000),
+    (Family::DamagedTwice, 12_000),
+    (Family::AnyWords, 12_000),
+    (Family::AnyBytes, 2_000),
+    (Family::WrappedWidth, 400),
+    (Family::AllReferences, 60),
+    (Family::Large, 1_200),
+    (Family::Megabyte, 120),
+];
+
+/// All families.
+pub fn families() -> impl Iterator<Item = Family> {
+    FAMILIES.iter().map(|&(family, _)| family)
+}
+
+/// How many cases a run has.
+pub fn count() -> usize {
+    FAMILIES.iter().map(|(_, count)| count).sum()
+}
+
+/// The case of this number. The families are mixed, so that each of them comes early in a run.
+pub fn case(seed: u64, number: usize) -> Case {
+    let mut place = mixed(number, count());
+    for (family, count) in FAMILIES {
+        if place < count {
+            let mut random = Random::of_case(seed, number);
+            return Case {
+                seed,
+                number,
+                family,
+                message: family_message(family, place, &mut random),
+                shift: random.between(0, 15) as usize,
+            };
+        }
+        place -= count;
+    }
+    panic!("a run has {} cases", count());
+}
+
+fn family_message(family: Family, place: usize, random: &mut Random) -> Vec<u8> {
+    match family {
+        Family::Valid => valid(place, &SMALL, random),
+        Family::Retyped => {
+            let mut bytes = valid(place, &SMALL, random);
+            bytes[0] = 0x10 | (place / 6 % 16) as u8;
+            bytes
+        }
+        Family::Damaged(damage) => damaged(&valid(place, &SMALL, random), damage, random),
+        Family::DamagedTwice => {
+            let once = damaged(&valid(place, &SMALL, random), whole_words(random), random);
+            let damage = random.one_of(&DAMAGES);
+            match once.len() {
+                0 => once,
+                _ => damaged(&once, damage, random),
+            }
+        }
+        Family::AnyWords => any_words(random),
+        Family::AnyBytes => {
+            let length = random.between(0, 100) as usize;
+            random.bytes(length)
+        }
+        Family::WrappedWidth => wrapped_width(random),
+        Family::AllReferences => all_references(place, random),
+        Family::Large => valid_or_damaged(place, &LARGE, random),
+        Family::Megabyte => valid_or_damaged(place, &MEGABYTE, random),
+    }
+}
+
+/// The bytes of a well-formed message; the types in turn.
+fn valid(place: usize, sizes: &Sizes, random: &mut Random) -> Vec<u8> {
+    encode(&message(1 + place as u32 % 6, sizes, random))
+}
+
+/// A well-formed message of a type that grows; two of three with damage.
+fn valid_or_damaged(place: usize, sizes: &Sizes, random: &mut Random) -> Vec<u8> {
+    let whole = encode(&message(3 + place as u32 % 3, sizes, random));
+    match place / 3 % 3 {
+        0 => whole,
+        _ => damaged(&whole, random.one_of(&DAMAGES), random),
+    }
+}
+
+/// A kind of damage that leaves whole words.
+fn whole_words(random: &mut Random) -> Damage {
+    random.one_of(&DAMAGES[..7])
+}
+
+fn bytes(words: &[u32]) -> Vec<u8> {
+    words.iter().flat_map(|word| word.to_be_bytes()).collect()
+}
+
+/// Words whose kinds are those of the type, or nearly.
+fn any_words(random: &mut Random) -> Vec<u8> {
+    let message_type = random.between(0, 7) as u32;
+    let mut words = vec![1 << 28 | message_type << 24 | 5];
+    let node = [2, 3, 3, 3];
+    let kinds: Vec<u32> = match message_type {
+        3 => [[2; 7].as_slice(), &[3; 3]].concat(),
+        4 => [node.as_slice(), &[2]].concat(),
+        2 | 5 | 6 => node.to_vec(),
+        _ => vec![],
+    };
+    let more = random.one_of(&[2, 3, 4, 5]);
+    let count = random.by_size(0, 50) as usize;
+    for kind in kinds.into_iter().chain(vec![more; count]) {
+        let kind = if random.between(0, 40) == 0 {
+            random.between(1, 6) as u32
+        } else {
+            kind
+        };
+        words.push(kind << 28 | likely_rest(kind, random));
+    }
+    words.push(6 << 28 | (words.len() as u32 + 1));
+    bytes(&words)
+}
+
+/// The 28 bits of a word that is mostly right for its kind.
+fn likely_rest(kind: u32, random: &mut Random) -> u32 {
+    let bits = random.number() as u32 >> 4;
+    let reference = (bits % 4_096) << 6 | random.between(1, 32) as u32;
+    match kind {
+        2 => random.by_size(0, 70_000) as u32,
+        3 => bits >> random.one_of(&[0, 20, 20, 19]),
+        4 => reference,
+        5 => (3 << 24) + bits % (1 << 24),
+        _ => bits,
+    }
+}
+
+/// An opening of few cells, whose q is theirs modulo a power of two only.
+fn wrapped_width(random: &mut Random) -> Vec<u8> {
+    let bits = random.between(8, 27);
+    let few = random.between(0, 4);
+    let width = few + (random.between(1, (1 << (28 - bits)) - 1) << bits);
+    let mut words = vec![0x1300_0005];
+    words.extend([1, 2, 2, 1, 2, width as u32, 6].map(|number| 2 << 28 | number));
+    words.extend(vec![3 << 28; 3 + 45 * few as usize]);
+    words.push(6 << 28 | (words.len() as u32 + 1));
+    bytes(&words)
+}
+
+/// Every index once, and in two of three cases one index once more.
+fn all_references(place: usize, random: &mut Random) -> Vec<u8> {
+    let mut words = vec![0x1400_0005, 2 << 28, 3 << 28, 3 << 28, 3 << 28, 2 << 28];
+    let mut indexes: Vec<u32> = (0..4_096).collect();
+    for k in 0..indexes.len() {
+        let other = random.between(k as u64, 4_095) as usize;
+        indexes.swap(k, other);
+    }
+    if place % 3 > 0 {
+        let again = random.one_of(&[0, 1, 63, 64, 2_048, 4_094, 4_095]);
+        let at = random.between(0, 4_096) as usize;
+        indexes.insert(at, again);
+    }
+    words.extend(indexes.iter().map(|index| 4 << 28 | index << 6 | 1));
+    words.push(6 << 28 | (words.len() as u32 + 1));
+    bytes(&words)
+}

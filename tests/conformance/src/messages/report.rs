@@ -1,0 +1,93 @@
+//! Runs all cases of a seed and counts what they were.
+
+use super::cases::{case, families, Case, Family};
+use super::compare::{compare, MessageType};
+use crate::failure::Failure;
+use reference::rcds::ACCEPTED;
+use std::collections::BTreeMap;
+use std::fmt;
+
+/// A message of more bytes than this is a long one.
+const LONG: usize = 900_000;
+
+/// What ran.
+#[derive(Default)]
+pub struct Report {
+    cases: usize,
+    /// Well-formed messages by type.
+    accepted: BTreeMap<u64, usize>,
+    refused: usize,
+    /// Accepted and refused cases of each family.
+    families: BTreeMap<Family, [usize; 2]>,
+    /// Accepted and refused messages of about a megabyte.
+    long: [usize; 2],
+    bytes: usize,
+}
+
+/// Runs the first cases, so many of them, up to the first that differs.
+pub fn run(seed: u64, cases: usize, function: MessageType) -> Result<Report, Failure> {
+    let mut report = Report::default();
+    for number in 0..cases {
+        let case = case(seed, number);
+        let answer = compare(&case, function)?;
+        report.add(&case, answer);
+    }
+    Ok(report)
+}
+
+impl Report {
+    fn add(&mut self, case: &Case, answer: u64) {
+        let refused = answer == 10;
+        self.cases += 1;
+        self.bytes += case.message.len();
+        self.families.entry(case.family).or_default()[usize::from(refused)] += 1;
+        self.long[usize::from(refused)] += usize::from(case.message.len() > LONG);
+        match refused {
+            true => self.refused += 1,
+            false => *self.accepted.entry(answer - ACCEPTED).or_default() += 1,
+        }
+    }
+
+    /// That every answer did occur, and in every family both kinds that it can have, so that the
+    /// run had something to find.
+    pub fn assert_complete(&self) {
+        let types: Vec<u64> = self.accepted.keys().copied().collect();
+        assert_eq!(types, [1, 2, 3, 4, 5, 6], "types that were accepted");
+        assert!(self.refused > 0, "no case was refused");
+        assert!(self.long.iter().all(|&count| count > 0), "long messages");
+        for family in families() {
+            let [accepted, refused] = self.families[&family];
+            let may_be_accepted = !matches!(family, Family::AnyBytes | Family::WrappedWidth);
+            let name = format!("{family:?}");
+            assert!(accepted > 0 || !may_be_accepted, "{name}: none accepted");
+            assert!(
+                refused > 0 || family == Family::Valid,
+                "{name}: none refused"
+            );
+        }
+    }
+}
+
+impl fmt::Display for Report {
+    fn fmt(&self, f: &mut fmt::Formatter) -> fmt::Result {
+        let types = self.accepted.iter();
+        let types: Vec<String> = types
+            .map(|(number, count)| format!("{number} {count}"))
+            .collect();
+        let families = self.families.iter();
+        let families: Vec<String> = families
+            .map(|(family, [accepted, refused])| format!("{family:?} {accepted} and {refused}"))
+            .collect();
+        write!(
+            f,
+            "{} messages, {} MB, as the reference has them: type {}; refused by 10 {}; of about a megabyte {} and {} refused; accepted and refused of each family: {}",
+            self.cases,
+            self.bytes / 1_000_000,
+            types.join(", "),
+            self.refused,
+            self.long[0],
+            self.long[1],
+            families.join(", "),
+        )
+    }
+}

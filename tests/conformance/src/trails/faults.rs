@@ -1,0 +1,460 @@
+//! The comparison tested: two functions that are right, and many that are wrong in one place each.
+//! Every wrong one must be found, and the right ones must pass a quarter of the cases.
+//!
+//! The right ones walk the trails one after the other, and turn back as soon as an unused pair can
+//! no longer be reached.
+
+use super::cases::count;
+use super::compare::{Calls, TrailNumber, TrailOrder};
+use super::report::run;
+use std::cmp::Ordering;
+
+const NONE: u8 = 0;
+
+// Of both calls.
+const SIGNED: u8 = 1;
+const FALLING: u8 = 2;
+const LOW_BYTE_FIRST: u8 = 3;
+const HIGH_HALVES_ONLY: u8 = 4;
+const PAIR_LEFT_UNUSED: u8 = 5;
+const REACHED_IN_ONE_PASS: u8 = 6;
+const EQUAL_PAIRS_TOLD_APART: u8 = 7;
+const REFUSES_32_IDS: u8 = 8;
+const TAKES_33_IDS: u8 = 9;
+const PART_OF_A_ROW_DROPPED: u8 = 10;
+const READ_PIECE_CHANGED: u8 = 11;
+const PAST_THE_READ_PIECE: u8 = 12;
+
+// Of `rcds_trail_number`.
+const COUNTS_ITSELF: u8 = 20;
+const CAP_4095: u8 = 21;
+const CAP_4097: u8 = 22;
+const TAKES_NO_IDS: u8 = 23;
+const TAKES_ID_0: u8 = 24;
+const LAST_ID_MAY_BE_0: u8 = 25;
+const ALWAYS_0: u8 = 26;
+
+// Of `rcds_trail_order`.
+const NEXT_NUMBER: u8 = 40;
+const NUMBER_4096: u8 = 41;
+const NUMBER_4095_REFUSED: u8 = 42;
+const NUMBER_LOW_32_BITS: u8 = 43;
+const LAST_TRAIL_FOR_LARGER: u8 = 44;
+const ENTRIES_NOT_SORTED: u8 = 45;
+const COUNT_0_ENDS: u8 = 46;
+const COUNT_0_IS_1: u8 = 47;
+const COUNTS_WRAP: u8 = 48;
+const COUNTS_32_BITS: u8 = 49;
+const COUNTS_8_BITS: u8 = 50;
+const LAST_ENTRY_OF_EQUAL_PAIRS: u8 = 51;
+const REFUSES_ID_0: u8 = 52;
+const ENDS_AT_ID_0: u8 = 53;
+const REFUSES_32_ENTRIES: u8 = 54;
+const TAKES_33_ENTRIES: u8 = 55;
+const ROOM_BEFORE_TRAIL: u8 = 56;
+const ROOM_FOR_32: u8 = 57;
+const ROOM_ONE_BYTE_MORE: u8 = 58;
+const ROOM_NOT_ASKED: u8 = 59;
+const WRITES_AT_20: u8 = 60;
+const WRITES_AT_17: u8 = 61;
+const REST_CLEARED: u8 = 62;
+const PAST_THE_IDS: u8 = 63;
+const BEFORE_THE_IDS: u8 = 64;
+const ANSWERS_BYTES: u8 = 65;
+const REFUSED_BY_10: u8 = 66;
+
+/// A pair in a search: its ids, their places in the list of all ids, how many are unused.
+struct Pair {
+    previous: u64,
+    own: u64,
+    previous_place: u32,
+    own_place: u32,
+    unused: u64,
+}
+
+/// A search over unused pairs.
+struct Search {
+    fault: u8,
+    /// In the order in which they are tried.
+    pairs: Vec<Pair>,
+    /// How many trails are still to be skipped.
+    skip: u64,
+    ids: Vec<u64>,
+}
+
+/// Which of two ids comes first.
+fn order(fault: u8, a: u64, b: u64) -> Ordering {
+    match fault {
+        SIGNED => (a as i64).cmp(&(b as i64)),
+        FALLING => b.cmp(&a),
+        HIGH_HALVES_ONLY => (a >> 32).cmp(&(b >> 32)),
+        _ => a.cmp(&b),
+    }
+}
+
+impl Search {
+    fn new(fault: u8, entries: &[[u64; 3]], skip: u64) -> Search {
+        let mut all: Vec<u64> = entries
+            .iter()
+            .flat_map(|entry| [entry[0], entry[1]])
+            .collect();
+        all.sort();
+        all.dedup();
+        let place = |id: u64| all.binary_search(&id).expect("an id of an entry") as u32;
+        let mut pairs: Vec<Pair> = Vec::new();
+        for &[previous, own, count] in entries {
+            let equal = |pair: &&mut Pair| pair.previous == previous && pair.own == own;
+            let known = pairs.iter_mut().find(equal);
+            match known.filter(|_| fault != EQUAL_PAIRS_TOLD_APART) {
+                Some(pair) if fault == LAST_ENTRY_OF_EQUAL_PAIRS => pair.unused = count,
+                Some(pair) => pair.unused += count,
+                None => pairs.push(Pair {
+                    previous,
+                    own,
+                    previous_place: place(previous),
+                    own_place: place(own),
+                    unused: count,
+                }),
+            }
+        }
+        if fault != ENTRIES_NOT_SORTED {
+            pairs.sort_by(|a, b| order(fault, a.own, b.own));
+        }
+        Search {
+            fault,
+            pairs,
+            skip,
+            ids: Vec::new(),
+        }
+    }
+
+    /// Whether every unused pair can be reached from this id.
+    fn reaches_all(&self, from: u64) -> bool {
+        let mut places = self.pairs.iter();
+        let Some(start) = places.find(|pair| pair.previous == from && pair.unused > 0) else {
+            return false;
+        };
+        let mut reached: u64 = 1 << start.previous_place;
+        let mut before = 0;
+        while reached != before {
+            before = reached;
+            for pair in &self.pairs {
+                if pair.unused > 0 && reached >> pair.previous_place & 1 == 1 {
+                    reached |= 1 << pair.own_place;
+                }
+            }
+            if self.fault == REACHED_IN_ONE_PASS {
+                break;
+            }
+        }
+        let mut unused = self.pairs.iter().filter(|pair| pair.unused > 0);
+        unused.all(|pair| reached >> pair.previous_place & 1 == 1)
+    }
+
+    /// Walks the trails from this id on, until the numbered one is found.
+    fn walk(&mut self, from: u64, unused: u64) -> bool {
+        let may_be_left = u64::from(self.fault == PAIR_LEFT_UNUSED && !self.ids.is_empty());
+        if unused <= may_be_left {
+            if self.skip == 0 {
+                return true;
+            }
+            self.skip -= 1;
+            return false;
+        }
+        let ended = self.fault == ENDS_AT_ID_0 && from == 0 && !self.ids.is_empty();
+        if ended || !self.reaches_all(from) {
+            return false;
+        }
+        for k in 0..self.pairs.len() {
+            let Pair {
+                previous,
+                own,
+                unused: count,
+                ..
+            } = self.pairs[k];
+            if previous != from || count == 0 {
+                continue;
+            }
+            self.pairs[k].unused -= 1;
+            self.ids.push(own);
+            if self.walk(own, unused - 1) {
+                return true;
+            }
+            self.ids.pop();
+            self.pairs[k].unused += 1;
+        }
+        false
+    }
+}
+
+/// Whether each id is entered as often as it is left, but for the start and one end: else there
+/// is no trail, and no search for one.
+fn is_balanced(entries: &[[u64; 3]]) -> bool {
+    let entered = |id: u64| {
+        let own = entries.iter().filter(|entry| entry[1] == id);
+        own.map(|entry| entry[2]).sum::<u64>() + u64::from(id == 0)
+    };
+    let left = |id: u64| {
+        let previous = entries.iter().filter(|entry| entry[0] == id);
+        previous.map(|entry| entry[2]).sum::<u64>()
+    };
+    entries
+        .iter()
+        .all(|entry| left(entry[0]) <= entered(entry[0]))
+}
+
+fn rows(fault: u8, bytes: &[u8]) -> Vec<u64> {
+    let row = |bytes: &[u8]| {
+        let bytes = bytes.try_into().expect("a row has 8 bytes");
+        match fault {
+            LOW_BYTE_FIRST => u64::from_le_bytes(bytes),
+            _ => u64::from_be_bytes(bytes),
+        }
+    };
+    bytes.chunks_exact(8).map(row).collect()
+}
+
+/// Whether so many ids are taken.
+fn ids_allowed(fault: u8, count: u64) -> bool {
+    match fault {
+        REFUSES_32_IDS => (1..=31).contains(&count),
+        TAKES_33_IDS => (1..=33).contains(&count),
+        TAKES_NO_IDS => (0..=32).contains(&count),
+        _ => (1..=32).contains(&count),
+    }
+}
+
+/// `rcds_trail_number` with one fault.
+fn answer_number(fault: u8, ids: &[u8]) -> u64 {
+    if ids.len() % 8 != 0 && fault != PART_OF_A_ROW_DROPPED {
+        return 17;
+    }
+    let ids = rows(fault, ids);
+    let looked_at = match fault {
+        TAKES_ID_0 => 0,
+        LAST_ID_MAY_BE_0 => ids.len().saturating_sub(1),
+        _ => ids.len(),
+    };
+    if !ids_allowed(fault, ids.len() as u64) || ids[..looked_at].contains(&0) {
+        return 17;
+    }
+    let previous: Vec<u64> = [0].iter().chain(&ids).copied().collect();
+    let pair = |k: usize| [previous[k], ids[k], 1];
+    let pairs: Vec<[u64; 3]> = (0..ids.len()).map(pair).collect();
+    let cap = match fault {
+        CAP_4095 => 4_095,
+        CAP_4097 => 4_097,
+        _ => 4_096,
+    };
+    let mut number = u64::from(fault == COUNTS_ITSELF);
+    for d in 0..ids.len() {
+        let mut search = Search::new(fault, &pairs[d..], 0);
+        for k in 0..search.pairs.len() {
+            let (from, own) = (search.pairs[k].previous, search.pairs[k].own);
+            let smaller = order(fault, own, ids[d]) == Ordering::Less && number < cap;
+            if from == previous[d] && smaller && fault != ALWAYS_0 {
+                search.skip = cap - number;
+                search.pairs[k].unused -= 1;
+                search.ids = vec![own];
+                search.walk(own, (ids.len() - d - 1) as u64);
+                search = Search::new(fault, &pairs[d..], search.skip);
+                number = cap - search.skip;
+            }
+        }
+    }
+    (1 << 32) + number
+}
+
+/// `rcds_trail_order` with one fault: the answer, and the ids that are written.
+fn answer_order(fault: u8, pairs: &[u8], number: u64, room: usize) -> (u64, Vec<u64>) {
+    let most_entries = match fault {
+        REFUSES_32_ENTRIES => 31,
+        TAKES_33_ENTRIES => 33,
+        _ => 32,
+    };
+    let whole = pairs.len() % 24 == 0 || fault == PART_OF_A_ROW_DROPPED;
+    if !whole || pairs.len() / 24 > most_entries {
+        return (17, vec![]);
+    }
+    let rows = rows(fault, pairs);
+    let mut entries: Vec<[u64; 3]> = rows
+        .chunks_exact(3)
+        .map(|row| [row[0], row[1], row[2]])
+        .collect();
+    if fault == COUNT_0_ENDS {
+        let end = entries.iter().position(|entry| entry[2] == 0);
+        entries.truncate(end.unwrap_or(entries.len()));
+    }
+    for entry in &mut entries {
+        entry[2] = match fault {
+            COUNT_0_IS_1 => entry[2].max(1),
+            COUNTS_32_BITS => entry[2] % (1 << 32),
+            COUNTS_8_BITS => entry[2] % (1 << 8),
+            _ => entry[2],
+        };
+    }
+    let add = |sum: u64, entry: &[u64; 3]| match fault {
+        COUNTS_WRAP => sum.wrapping_add(entry[2]),
+        _ => sum.saturating_add(entry[2]),
+    };
+    let k = entries.iter().fold(0, add);
+    let number = match fault {
+        NUMBER_LOW_32_BITS => number % (1 << 32),
+        NEXT_NUMBER => number.saturating_add(1),
+        _ => number,
+    };
+    let most_number = match fault {
+        NUMBER_4096 => 4_096,
+        NUMBER_4095_REFUSED => 4_094,
+        _ => 4_095,
+    };
+    if !ids_allowed(fault, k) || number > most_number {
+        return (17, vec![]);
+    }
+    let has_id_0 = entries.iter().any(|entry| entry[1] == 0 && entry[2] > 0);
+    if has_id_0 && fault == REFUSES_ID_0 {
+        return (17, vec![]);
+    }
+    let needed = 8 * k as usize;
+    let fits = match fault {
+        ROOM_FOR_32 => room >= 256,
+        ROOM_ONE_BYTE_MORE => room > needed,
+        ROOM_NOT_ASKED => true,
+        _ => room >= needed,
+    };
+    if fault == ROOM_BEFORE_TRAIL && !fits {
+        return (20, vec![]);
+    }
+    entries.retain(|entry| entry[2] > 0);
+    // With counts that wrap, one of them may be too large to be walked.
+    if entries.iter().any(|entry| entry[2] > 32) {
+        return ((1 << 32) + k, vec![]);
+    }
+    let mut search = Search::new(fault, &entries, number);
+    let mut found = is_balanced(&entries) && search.walk(0, k);
+    if !found && fault == LAST_TRAIL_FOR_LARGER && number > search.skip {
+        let last = number - search.skip - 1;
+        search = Search::new(fault, &entries, last);
+        found = search.walk(0, k);
+    }
+    match (found, fits) {
+        (false, _) => (17, vec![]),
+        (true, false) => (20, search.ids),
+        (true, true) if fault == ANSWERS_BYTES => ((1 << 32) + 8 * k, search.ids),
+        (true, true) => ((1 << 32) + k, search.ids),
+    }
+}
+
+/// The function with one fault, as C would call it.
+unsafe extern "C" fn faulty_number<const FAULT: u8>(ids: *const u8, ids_len: usize) -> u64 {
+    let answer = answer_number(FAULT, std::slice::from_raw_parts(ids, ids_len));
+    changed::<FAULT>(ids, ids_len);
+    answer
+}
+
+/// Changes a byte of the piece that was lent for reading, or one past it. Both stand in a vector
+/// with guard bytes, so these writes stay in its memory.
+unsafe fn changed<const FAULT: u8>(piece: *const u8, length: usize) {
+    match FAULT {
+        READ_PIECE_CHANGED if length > 0 => *piece.cast_mut() ^= 1,
+        PAST_THE_READ_PIECE => *piece.cast_mut().add(length) ^= 1,
+        _ => {}
+    }
+}
+
+/// The function with one fault, as C would call it.
+unsafe extern "C" fn faulty_order<const FAULT: u8>(
+    pairs: *const u8,
+    pairs_len: usize,
+    number: u64,
+    ids: *mut u8,
+    ids_len: usize,
+) -> u64 {
+    let lent = std::slice::from_raw_parts(pairs, pairs_len);
+    let written = std::slice::from_raw_parts_mut(ids, ids_len);
+    let (answer, order) = answer_order(FAULT, lent, number, ids_len);
+    if answer > 20 || FAULT == WRITES_AT_20 {
+        for (bytes, id) in written.chunks_exact_mut(8).zip(&order) {
+            bytes.copy_from_slice(&match FAULT {
+                LOW_BYTE_FIRST => id.to_le_bytes(),
+                _ => id.to_be_bytes(),
+            });
+        }
+    }
+    match FAULT {
+        REST_CLEARED if answer > 20 => written[8 * order.len()..].fill(0),
+        WRITES_AT_17 if answer == 17 => written.fill(0),
+        PAST_THE_IDS => *ids.add(ids_len) ^= 1,
+        BEFORE_THE_IDS => *ids.sub(1) ^= 1,
+        _ => {}
+    }
+    changed::<FAULT>(pairs, pairs_len);
+    match answer {
+        17 if FAULT == REFUSED_BY_10 => 10,
+        answer => answer,
+    }
+}
+
+macro_rules! functions {
+    ($function:ident $kind:ident $($fault:ident)*) => {
+        [$((stringify!($fault), $function::<$fault> as $kind)),*]
+    };
+}
+
+const SEED: u64 = 1;
+
+#[test]
+fn the_right_functions_pass() {
+    let calls = Calls {
+        number: faulty_number::<NONE>,
+        order: faulty_order::<NONE>,
+    };
+    match run(SEED, count() / 4, calls) {
+        Ok(report) => report.assert_complete(),
+        Err(failure) => panic!("{failure}"),
+    }
+}
+
+fn assert_found(name: &str, call: &str, calls: Calls) {
+    match run(SEED, count(), calls) {
+        Ok(_) => panic!("{name} passed"),
+        Err(failure) => {
+            println!("{name}: {failure}");
+            assert_eq!(failure.call, call);
+        }
+    }
+}
+
+#[test]
+fn every_fault_of_numbering_is_found() {
+    let functions = functions! {
+        faulty_number TrailNumber
+        SIGNED FALLING LOW_BYTE_FIRST HIGH_HALVES_ONLY PAIR_LEFT_UNUSED REACHED_IN_ONE_PASS
+        EQUAL_PAIRS_TOLD_APART REFUSES_32_IDS TAKES_33_IDS PART_OF_A_ROW_DROPPED READ_PIECE_CHANGED
+        PAST_THE_READ_PIECE COUNTS_ITSELF CAP_4095 CAP_4097 TAKES_NO_IDS TAKES_ID_0 LAST_ID_MAY_BE_0
+        ALWAYS_0
+    };
+    for (name, number) in functions {
+        let order = faulty_order::<NONE>;
+        assert_found(name, "rcds_trail_number", Calls { number, order });
+    }
+}
+
+#[test]
+fn every_fault_of_ordering_is_found() {
+    let functions = functions! {
+        faulty_order TrailOrder
+        SIGNED FALLING LOW_BYTE_FIRST HIGH_HALVES_ONLY PAIR_LEFT_UNUSED REACHED_IN_ONE_PASS
+        EQUAL_PAIRS_TOLD_APART REFUSES_32_IDS TAKES_33_IDS PART_OF_A_ROW_DROPPED READ_PIECE_CHANGED
+        PAST_THE_READ_PIECE NEXT_NUMBER NUMBER_4096 NUMBER_4095_REFUSED NUMBER_LOW_32_BITS
+        LAST_TRAIL_FOR_LARGER ENTRIES_NOT_SORTED COUNT_0_ENDS COUNT_0_IS_1 COUNTS_WRAP
+        COUNTS_32_BITS COUNTS_8_BITS LAST_ENTRY_OF_EQUAL_PAIRS REFUSES_ID_0 ENDS_AT_ID_0
+        REFUSES_32_ENTRIES TAKES_33_ENTRIES ROOM_BEFORE_TRAIL ROOM_FOR_32 ROOM_ONE_BYTE_MORE
+        ROOM_NOT_ASKED WRITES_AT_20 WRITES_AT_17 REST_CLEARED PAST_THE_IDS BEFORE_THE_IDS
+        ANSWERS_BYTES REFUSED_BY_10
+    };
+    for (name, order) in functions {
+        let number = faulty_number::<NONE>;
+        assert_found(name, "rcds_trail_order", Calls { number, order });
+    }
+}

@@ -1,0 +1,32 @@
+//! `rcds_trail_number` and `rcds_trail_order`: the number of an order, and the order of a number.
+
+mod cases;
+mod compare;
+pub mod orders;
+mod report;
+
+#[cfg(test)]
+mod faults;
+
+pub use compare::{Calls, TrailNumber, TrailOrder};
+
+use crate::failure::Failure;
+
+/// Runs every case of the seed, asserts that they had something to find, and says what they were.
+pub fn run_all(seed: u64, calls: Calls) -> Result<Vec<String>, Failure> {
+    assert!(cases::count() >= 100_000);
+    let report = report::run(seed, cases::count(), calls)?;
+    report.assert_complete();
+    Ok(vec![
+        format!("rcds_trail_number, seed {seed}: {}", report.number),
+        format!("rcds_trail_order, seed {seed}: {}", report.order),
+    ])
+}
+
+/// Runs one case of the seed.
+pub fn run_one(seed: u64, number: usize, calls: Calls) -> Result<Vec<String>, Failure> {
+    let done = compare::compare(&cases::case(seed, number), calls)?;
+    Ok(vec![format!(
+        "trails, seed {seed}: case {number} as the reference has it: {done:?}"
+    )])
+}

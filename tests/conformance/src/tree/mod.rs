@@ -1,0 +1,29 @@
+//! `rcds_tree`: the tree of a string.
+
+mod cases;
+mod compare;
+mod content;
+mod report;
+
+#[cfg(test)]
+mod faults;
+
+pub use compare::Tree;
+
+use crate::failure::Failure;
+
+/// Runs every case of the seed, asserts that they had something to find, and says what they were.
+pub fn run_all(seed: u64, function: Tree) -> Result<Vec<String>, Failure> {
+    assert!(cases::count() >= 20_000);
+    let report = report::run(seed, cases::count(), function)?;
+    report.assert_complete();
+    Ok(vec![format!("rcds_tree, seed {seed}: {report}")])
+}
+
+/// Runs one case of the seed.
+pub fn run_one(seed: u64, number: usize, function: Tree) -> Result<Vec<String>, Failure> {
+    let answer = compare::compare(&cases::case(seed, number), function)?;
+    Ok(vec![format!(
+        "rcds_tree, seed {seed}: case {number} as the reference has it: answer {answer}"
+    )])
+}
