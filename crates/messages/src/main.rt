@@ -1,7 +1,9 @@
 // Writes messages of every type and reads them again, and prints what comes out. The stored output is what tests/reference,
-// written from the documents alone, prints; its program reference-messages says the format.
+// written from the documents alone, prints; its program reference-messages says the format. Then it reads messages from
+// standard input, each behind its length in four bytes, and prints what it finds in each; tests/conformance sends them.
 mod show;
 
+use libc::STDIN_FILENO;
 use message_writer::write_composition;
 use message_writer::write_literal;
 use message_writer::write_node_query;
@@ -127,9 +129,46 @@ fn openings() {
     opening_case(1, &mut one, &mut short);
 }
 
+// Four bytes as one number, a the most significant.
+fn word(a: u8, b: u8, c: u8, d: u8) -> u64 {
+    ((a as u64 * 256 + b as u64) * 256 + c as u64) * 256 + d as u64
+}
+
+// The length of the next message; 2^32 where there is none.
+fn next_length() -> u64 {
+    let mut head = [0u8; 4];
+    if io::read_full(STDIN_FILENO, &mut head) < 4 {
+        return 4294967296;
+    }
+    word(head[0], head[1], head[2], head[3])
+}
+
+// Reads the next n bytes into the buffer and prints what the reader finds in them.
+fn next_message(buffer: &mut [u8], n: usize) {
+    if n <= buffer.len() {
+        io::read_full(STDIN_FILENO, &mut buffer[..n]);
+        show::found(&buffer[..n]);
+    }
+}
+
+// Reads messages of at most 65,536 bytes, at most a million, until there are no more.
+fn arriving() {
+    let mut buffer = [0u8; 65536];
+    let mut left: u64 = 1000000;
+    while 0 < left {
+        let n = next_length();
+        if 65536 < n {
+            return;
+        }
+        next_message(&mut buffer, n as usize);
+        left -= 1;
+    }
+}
+
 fn main() {
     queries();
     literals();
     compositions();
     openings();
+    arriving();
 }

@@ -129,8 +129,15 @@ fn print_message(message: &[u8]) {
     }
 }
 
-// A line with the writer's answer and FNV-1a of the whole buffer; then, if a message was written, one with its type, as the
-// reader answers it, and what the reader finds.
+// A line with the type of the message, as the reader answers it, and what the reader finds.
+pub fn found(message: &[u8]) {
+    io::write_all(STDOUT_FILENO, b"read");
+    print_number(message_type(message));
+    print_message(message);
+    end_line();
+}
+
+// A line with the writer's answer and FNV-1a of the whole buffer; then, if a message was written, what is found in it.
 pub fn written(answer: u64, buffer: &[u8]) {
     io::write_all(STDOUT_FILENO, b"write");
     print_number(answer);
@@ -141,10 +148,6 @@ pub fn written(answer: u64, buffer: &[u8]) {
     }
     let n = (answer % 4294967296) as usize;
     if n <= buffer.len() {
-        let message = &buffer[..n];
-        io::write_all(STDOUT_FILENO, b"read");
-        print_number(message_type(message));
-        print_message(message);
-        end_line();
+        found(&buffer[..n]);
     }
 }

@@ -6,6 +6,7 @@
 
 pub mod eulerian;
 pub mod fnv;
+pub mod listing;
 pub mod message;
 pub mod node_table;
 pub mod partition;

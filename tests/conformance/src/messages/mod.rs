@@ -21,6 +21,11 @@ pub fn run_all(seed: u64, function: MessageType) -> Result<Vec<String>, Failure>
     Ok(vec![format!("rcds_message_type, seed {seed}: {report}")])
 }
 
+/// The messages of every case of the seed.
+pub fn messages(seed: u64) -> impl Iterator<Item = Vec<u8>> {
+    (0..cases::count()).map(move |number| cases::case(seed, number).message)
+}
+
 /// Runs one case of the seed.
 pub fn run_one(seed: u64, number: usize, function: MessageType) -> Result<Vec<String>, Failure> {
     let answer = compare::compare(&cases::case(seed, number), function)?;

@@ -4,52 +4,55 @@ use lib.Seq.{length-take-le}
 use borrow.Author.Needs.{needs}
 use Rattle.messages.proofs.show.written.Statement.{statement}
 use Rattle.messages.proofs.show.written.Tie as tie
+use Rattle.messages.proofs.show.written.Reads as reads
+use Rattle.messages.proofs.show.written.Lts as lts
+use Rattle.fnv.proofs.hash.Reads as hash-reads
+use Rattle.io.proofs.write_all.Reads as write-all-reads
+use Rattle.messages.proofs.show.end_line.Reads as end-line-reads
+use Rattle.messages.proofs.show.found.Reads as found-reads
+use Rattle.messages.proofs.show.print_number.Reads as print-number-reads
 
+-- src/show.rt:142:34
 slice-aggregate-write-all : tie.Need-slice-aggregate-write-all
 slice-aggregate-write-all c = search needs
 
+-- src/show.rt:142:5
 write-all-requires : tie.Need-write-all-requires
 write-all-requires c κs = search needs
 
+-- src/show.rt:143:5
 print-number-requires : tie.Need-print-number-requires
 print-number-requires c κs = search needs
 
+-- src/show.rt:144:18
 hash-requires : tie.Need-hash-requires
 hash-requires c κs = search needs
 
+-- src/show.rt:144:5
 print-number-requires-2 : tie.Need-print-number-requires-2
 print-number-requires-2 c κs = search needs
 
+-- src/show.rt:145:5
 end-line-requires : tie.Need-end-line-requires
 end-line-requires c κs = search needs
 
+-- src/show.rt:147:9
 returns : tie.Need-returns
 returns c = search needs
 
-slice-aggregate-message : tie.Need-slice-aggregate-message
-slice-aggregate-message c = sym (length-take-le _ _ (search needs))
+-- src/show.rt:151:15
+slice-aggregate-found : tie.Need-slice-aggregate-found
+slice-aggregate-found c = sym (length-take-le _ _ (search needs))
 
-slice-aggregate-write-all-2 : tie.Need-slice-aggregate-write-all-2
-slice-aggregate-write-all-2 c = search needs
+-- src/show.rt:151:9
+found-requires : tie.Need-found-requires
+found-requires c κs = search needs
 
-write-all-requires-2 : tie.Need-write-all-requires-2
-write-all-requires-2 c κs = search needs
-
-message-type-requires : tie.Need-message-type-requires
-message-type-requires c κs = search needs
-
-print-number-requires-3 : tie.Need-print-number-requires-3
-print-number-requires-3 c κs = search needs
-
-print-message-requires : tie.Need-print-message-requires
-print-message-requires c κs = search needs
-
-end-line-requires-2 : tie.Need-end-line-requires-2
-end-line-requires-2 c κs = search needs
-
+-- src/show.rt:141:1
 returns-2 : tie.Need-returns-2
 returns-2 c = search needs
 
+-- src/show.rt:141:1
 returns-3 : tie.Need-returns-3
 returns-3 c = search needs
 
@@ -64,12 +67,7 @@ written-spec =
     print-number-requires-2
     end-line-requires
     returns
-    slice-aggregate-message
-    slice-aggregate-write-all-2
-    write-all-requires-2
-    message-type-requires
-    print-number-requires-3
-    print-message-requires
-    end-line-requires-2
+    slice-aggregate-found
+    found-requires
     returns-2
     returns-3)
