@@ -218,8 +218,8 @@ uint64_t rcds_trail_number(const uint8_t *ids, size_t ids_len);
  *
  * Refused: ids is unchanged.
  *
- * The time is bounded for every content of pairs: no branch is entered that
- * has no trail, and no trail is walked past the one wanted.
+ * The call ends for every content of pairs. How long it takes was measured and
+ * is not proved: at most 33 ms for the slowest multisets found.
  */
 uint64_t rcds_trail_order(const uint8_t *pairs, size_t pairs_len,
                           uint64_t number, uint8_t *ids, size_t ids_len);
