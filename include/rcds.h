@@ -30,12 +30,17 @@
  *   2  p from 2 to 8?
  *   3  levels from 1 to 4?
  *   4  nominal from p to the power of levels, to 65,536?
+ *   5  width from 1 to 64?
  *   6  string of at most RCDS_MAX_STRING bytes?
- *   7  node table of at least RCDS_NODES_BYTES bytes?
+ *   7  what is lent long enough: node table of RCDS_NODES_BYTES bytes, shingle
+ *      table of RCDS_SHINGLES_BYTES, cell table of RCDS_CELLS_BYTES(width),
+ *      sender's state of RCDS_SENDER_STATE_BYTES? Asked of those that the call
+ *      is lent.
  *   8  tree of at most RCDS_MAX_NODES nodes?
  *  10  message well formed: whole words, kinds, order, fixed bits, first part
  *      of a 64-bit value at most 255, cells as many as its q, reference counts
  *      1 to 32, no index twice, end right, nothing after it?
+ *  14  sketch opens?
  *  17  order: whole ids, 1 to RCDS_MAX_CHILDREN of them, none of them 0?
  *      multiset: whole entries, at most RCDS_MAX_CHILDREN of them, counts that
  *      add up to 1 to RCDS_MAX_CHILDREN, number at most RCDS_MAX_TRAIL_NUMBER,
@@ -81,6 +86,24 @@ extern "C" {
 
 /* The most bytes that a multiset of pairs may have: RCDS_MAX_CHILDREN pairs. */
 #define RCDS_TRAIL_PAIRS_BYTES 768
+
+/* The most shingles that a shingle table holds. */
+#define RCDS_MAX_SHINGLES 4096
+
+/* The bytes of one entry of a shingle table. */
+#define RCDS_SHINGLE_BYTES 24
+
+/* The bytes that a shingle table needs: RCDS_MAX_SHINGLES entries. */
+#define RCDS_SHINGLES_BYTES 98304
+
+/* The bytes of one cell of a sketch. */
+#define RCDS_CELL_BYTES 40
+
+/* The bytes that the cell table of a sketch of width q needs: 3 * q cells. */
+#define RCDS_CELLS_BYTES(q) (120 * (q))
+
+/* The bytes that a sender's state needs. */
+#define RCDS_SENDER_STATE_BYTES 40
 
 /*
  * Whether the answer r says that the call was accepted: r is 0, or at least
@@ -242,6 +265,125 @@ uint64_t rcds_trail_order(const uint8_t *pairs, size_t pairs_len,
  * The time grows in proportion to message_len, whatever the bytes are.
  */
 uint64_t rcds_message_type(const uint8_t *message, size_t message_len);
+
+/*
+ * rcds_sender_setup - set a sender up for a string.
+ *
+ * w, p, levels, nominal
+ *              as for rcds_tree.
+ * width        sketch width: the sketch has 3 * width cells.
+ * string       the string, string_len bytes. Not changed.
+ * nodes        the node table, nodes_len bytes.
+ * shingles     the shingle table, shingles_len bytes.
+ * cells        the cell table, cells_len bytes.
+ * state        the sender's state, state_len bytes.
+ *
+ * What the tables and the state hold before the call does not matter.
+ *
+ * Asks 1 to 8, in this order. 7 is asked of all three tables and of the state
+ * before anything is written.
+ *
+ * Accepted: RCDS_COUNT of the answer is the number of nodes, 2 to
+ * RCDS_MAX_NODES. The node table holds the string's tree, as after rcds_tree.
+ * The shingle table holds the tree's shingles from its start, sorted by level,
+ * previous id and own id, unsigned; there are no more of them than nodes. The
+ * cell table holds the 3 * width cells of that list from its start. Every lent
+ * byte of a table past its last entry is zero. The first
+ * RCDS_SENDER_STATE_BYTES bytes of the state are the five settings, rows of 64
+ * bits, most significant byte first: w, p, levels, nominal, width. The bytes
+ * of the state after them are unchanged.
+ *
+ * Refused by 1 to 7: tables and state are unchanged. Refused by 8: every lent
+ * byte of the three tables is zero, and the state is unchanged.
+ */
+uint64_t rcds_sender_setup(uint64_t w, uint64_t p, uint64_t levels,
+                           uint64_t nominal, uint64_t width,
+                           const uint8_t *string, size_t string_len,
+                           uint8_t *nodes, size_t nodes_len,
+                           uint8_t *shingles, size_t shingles_len,
+                           uint8_t *cells, size_t cells_len,
+                           uint8_t *state, size_t state_len);
+
+/*
+ * rcds_sketch_open - open a sketch over the own shingle list.
+ *
+ * levels       levels of cutting, of both ends.
+ * width        sketch width, of both ends.
+ * theirs       the other end's cell table, theirs_len bytes. Not changed.
+ * own          the own cell table, own_len bytes. Not changed.
+ * shingles     the own shingle table, shingles_len bytes: its list goes up to
+ *              the first count 0.
+ *
+ * The own cells are subtracted from theirs, and while a cell holds a single
+ * shingle, the first such cell is emptied of it. The sketch opens if all cells
+ * end at zero, no shingle was found twice, those that only the own end has are
+ * in the own list and the others are not, and the list that results has at
+ * most RCDS_MAX_SHINGLES entries and no pair twice at one level.
+ *
+ * Asks 3, 5, 7, 14.
+ *
+ * Accepted: RCDS_COUNT of the answer is the number of shingles in the new
+ * list. It stands at the start of the shingle table, sorted by level, previous
+ * id and own id, unsigned, and every lent byte past it is zero.
+ *
+ * Refused: nothing is changed.
+ */
+uint64_t rcds_sketch_open(uint64_t levels, uint64_t width,
+                          const uint8_t *theirs, size_t theirs_len,
+                          const uint8_t *own, size_t own_len,
+                          uint8_t *shingles, size_t shingles_len);
+
+/*
+ * Reading a shingle table.
+ *
+ * A shingle is a pair of ids at a level, of a node and of its left sibling, and
+ * how many nodes of the level give that pair. An entry is three rows of 64
+ * bits, most significant byte first: previous id, own id, and
+ * level * 65,536 + count. The readers below take the table and the place k of
+ * an entry, counted from 0; the table must hold RCDS_SHINGLE_BYTES * (k + 1)
+ * bytes. Any content of the entry is read.
+ */
+
+/* The id of the left sibling; 0 for a first child and for the whole string. */
+static inline uint64_t rcds_shingle_previous(const uint8_t *shingles, size_t k)
+{
+    return rcds_row(shingles, 3 * k);
+}
+
+/* The own id. */
+static inline uint64_t rcds_shingle_own(const uint8_t *shingles, size_t k)
+{
+    return rcds_row(shingles, 3 * k + 1);
+}
+
+/* The level. */
+static inline uint64_t rcds_shingle_level(const uint8_t *shingles, size_t k)
+{
+    return rcds_row(shingles, 3 * k + 2) >> 16;
+}
+
+/* How many nodes of the level give the pair. An entry that is not used has
+ * count 0, and a list ends before the first of these. */
+static inline uint64_t rcds_shingle_count(const uint8_t *shingles, size_t k)
+{
+    return rcds_row(shingles, 3 * k + 2) & 0xffff;
+}
+
+/*
+ * Reading a cell table.
+ *
+ * A cell is five rows of 64 bits, most significant byte first, each a sum
+ * modulo 2^64 over the shingles that lie in it: how many they are, their
+ * previous ids, their own ids, their level * 65,536 + count, their check
+ * hashes.
+ */
+
+/* Value m, 0 to 4, of cell i, counted from 0. The table must hold
+ * RCDS_CELL_BYTES * (i + 1) bytes. */
+static inline uint64_t rcds_cell_value(const uint8_t *cells, size_t i, size_t m)
+{
+    return rcds_row(cells, 5 * i + m);
+}
 
 #ifdef __cplusplus
 }

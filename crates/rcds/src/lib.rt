@@ -4,8 +4,10 @@ mod ids;
 ghost use mathlib.Core.Path.{_≡_};
 ghost use Rattle.message.specs.Messages.{parse};
 ghost use Rattle.message.specs.Reading.{typeAnswer};
+ghost use Rattle.sender.specs.State.{SenderSetUp};
+ghost use Rattle.opening.specs.Opened.{Opened};
 ghost use Rattle.tree.specs.Table.{Tabled};
-ghost use Rattle.rcds.specs.Calls.{treeSettings};
+ghost use Rattle.rcds.specs.Calls.{treeSettings, settingsOf};
 ghost use Rattle.rcds.specs.Trails.{trailNumberAnswer, Ordered};
 use trail::Pairs;
 use tree::Settings;
@@ -88,4 +90,45 @@ pub extern "C" fn rcds_message_type(message: &[u8]) -> u64
     ensures { λ r. ⌜ r ≡ typeAnswer (parse (now (message .entry))) ⌝ }
 {
     message::reader::message_type(message)
+}
+
+// Sets a sender up: fills its three tables from the string, and writes its settings to its state. Asked are 1 to 8.
+#[no_mangle]
+pub extern "C" fn rcds_sender_setup(
+    window: u64,
+    fan_out: u64,
+    levels: u64,
+    nominal: u64,
+    width: u64,
+    string: &[u8],
+    nodes: &mut [u8],
+    shingles: &mut [u8],
+    cells: &mut [u8],
+    state: &mut [u8],
+) -> u64
+    ensures { λ r. ⌜ SenderSetUp (settingsOf window «fan_out» levels nominal width) (now (string .entry)) (now (nodes .entry)) (now (nodes .exit))
+        (now (shingles .entry)) (now (shingles .exit)) (now (cells .entry)) (now (cells .exit)) (now (state .entry)) (now (state .exit)) r ⌝ }
+{
+    let settings = Settings {
+        window,
+        fan_out,
+        levels,
+        nominal,
+        width,
+    };
+    sender::setup(settings, string, nodes, shingles, cells, state)
+}
+
+// Opens a sketch over the own shingle list. Asked are 3, 5, 7 of the three tables, and 14.
+#[no_mangle]
+pub extern "C" fn rcds_sketch_open(
+    levels: u64,
+    width: u64,
+    theirs: &[u8],
+    own: &[u8],
+    shingles: &mut [u8],
+) -> u64
+    ensures { λ r. ⌜ Opened levels width (now (theirs .entry)) (now (own .entry)) (now (shingles .entry)) (now (shingles .exit)) r ⌝ }
+{
+    opening::open(levels, width, theirs, own, shingles)
 }

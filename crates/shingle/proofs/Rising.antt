@@ -4,9 +4,9 @@ use mathlib.Core.Bool.{Bool, true, false, cond, _||_}
 use mathlib.Core.List.{List, [], _∷_}
 use mathlib.Core.Logic.{_↔_}
 use mathlib.Core.Path.{_≡_, refl, sym, ap, _∙_}
-use Prim.Native.Nat.{ℕ, suc, _+_, _≤_}
+use Prim.Native.Nat.{ℕ, zero, suc, _+_, _≤_, _<_}
 use native.Mathlib.Omega.{arith}
-use lib.ListN.{length}
+use lib.ListN.{length, getD}
 use Rattle.entries.proofs.Linear.{less, equal, greater, both}
 use Rattle.shingle.specs.declared.Shingle.{Shingle}
 use Rattle.shingle.specs.Shingles.{Listed, Pair, shingle, pairOf, pairsAfter, pairsOf, lower, counting, counted, shinglesOf}
@@ -207,7 +207,7 @@ unfolding shinglesOf
 listed-few ns s h = omega (arith, counts-within s (counts-counted (pairsOf ns)) h .1, length-pairs ns)
 
 -- Two rising lists with the same members are equal.
-not-over : {k : Pair} {ss : List Shingle} (s : Shingle) → pairOf s ≡ k → Over k ss → holds s ss ≡ false
+pub not-over : {k : Pair} {ss : List Shingle} (s : Shingle) → pairOf s ≡ k → Over k ss → holds s ss ≡ false
 not-over {k} {ss} s e o = go (holds s ss) refl
   where
     go : (t : Bool) → holds s ss ≡ t → holds s ss ≡ false
@@ -250,3 +250,23 @@ rising-unique (more {s = x} {ss = a} o r) (more {s = y} {ss = b} p q) same =
     let e = first-equal x y a b o p same in
     let rest = rising-unique r q (rest-same x y a b o p e same) in
     λ i. e i ∷ rest i
+
+-- A rising list has one shingle of a pair.
+pub one-of-pair : {l : List Shingle} (a b : Shingle) → Rising l → holds a l ≡ true → holds b l ≡ true → pairOf a ≡ pairOf b → a ≡ b
+unfolding holds
+one-of-pair a b none h i e = absurd (both h refl)
+one-of-pair a b (more {s = y} {ss = ss} o r) h i e = go (agree a y) (agree b y) refl refl h i (λ j k. one-of-pair a b r j k e)
+  where
+    go : (t u : Bool) → agree a y ≡ t → agree b y ≡ u → (t || holds a ss) ≡ true → (u || holds b ss) ≡ true
+        → (holds a ss ≡ true → holds b ss ≡ true → a ≡ b) → a ≡ b
+    go true true f g j k rest = agree-true a y f ∙ sym (agree-true b y g)
+    go true false f g j k rest = absurd (both k (not-over b (sym e ∙ ap pairOf (agree-true a y f)) o))
+    go false true f g j k rest = absurd (both j (not-over a (e ∙ ap pairOf (agree-true b y g)) o))
+    go false false f g j k rest = rest j k
+
+-- Each shingle that stands in a list is held by it.
+pub held-at : (l : List Shingle) (i : ℕ) (d : Shingle) → i < length l → holds (getD l i d) l ≡ true
+unfolding holds
+held-at [] i d h = absurd (omega (arith, h))
+held-at (s ∷ ss) zero d h = holds-first s ss
+held-at (s ∷ ss) (suc i) d h = or-true (agree (getD ss i d) s) (held-at ss i d (omega (arith, h)))

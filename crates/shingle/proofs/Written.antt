@@ -38,13 +38,13 @@ words-zeros (suc (suc (suc (suc (suc (suc (suc (suc n)))))))) =
 zeros-list : (n : ℕ) → shinglesFrom (tableOf (replicate n 0)) ≡ []
 zeros-list n = let w = words-zeros n in ap (λ (ws : List ℕ). shinglesFrom (entriesOf ws)) (w .1) ∙ from-zeros (w .0)
 
-entry-back : (s : Shingle) → s .count ≤ 4096 → shingleOf (entryOf s) ≡ s
+pub entry-back : (s : Shingle) → s .count ≤ 65535 → shingleOf (entryOf s) ≡ s
 entry-back s h =
     let level : (s .level * 65536 + s .count) / 65536 ≡ s .level = omega arith in
     let count : (s .level * 65536 + s .count) % 65536 ≡ s .count = omega arith in
     λ i. record { previous = s .previous; own = s .own; level = level i; count = count i }
 
-from-entries : {n : ℕ} {ss : List Shingle} (rest : List Entry) → n ≤ 4096 → Counts n ss → shinglesFrom rest ≡ [] → shinglesFrom (map entryOf ss ++ rest) ≡ ss
+from-entries : {n : ℕ} {ss : List Shingle} (rest : List Entry) → n ≤ 65535 → Counts n ss → shinglesFrom rest ≡ [] → shinglesFrom (map entryOf ss ++ rest) ≡ ss
 unfolding shinglesFrom
 from-entries rest h none e = e
 from-entries rest h (more {s = s} {ss = ss} low high c) e =
@@ -53,7 +53,7 @@ from-entries rest h (more {s = s} {ss = ss} low high c) e =
 
 -- A table of the shingles' entries, and zeros after them.
 pub written-list : (front : List ℕ) (zeros n : ℕ) (ss : List Shingle) → length front % 24 ≡ 0 → tableOf front ≡ map entryOf ss
-    → n ≤ 4096 → Counts n ss → shinglesIn (front ++ replicate zeros 0) ≡ ss
+    → n ≤ 65535 → Counts n ss → shinglesIn (front ++ replicate zeros 0) ≡ ss
 unfolding shinglesIn
 written-list front zeros n ss whole e h c =
     ap shinglesFrom (table-append front (replicate zeros 0) whole ∙ ap (λ (l : List Entry). l ++ tableOf (replicate zeros 0)) e)

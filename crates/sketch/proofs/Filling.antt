@@ -1,5 +1,5 @@
 -- Each way out of filling a cell table is a case of the definition. A cleared table is a table of sums without summands.
-use mathlib.Core.List.{List, [], _∷_, _++_}
+use mathlib.Core.List.{List, [], _∷_, _++_, append-nil}
 use mathlib.Core.Path.{_≡_, refl, sym, ap, _∙_}
 use Prim.Native.Nat.{ℕ, zero, suc, _+_, _*_, _-_, _≤_, _<_}
 use native.Mathlib.Omega.{arith}
@@ -8,8 +8,9 @@ use lib.ListN.{length, take, drop, replicate, length-replicate, replicate-append
 use lib.Seq.{take-at, drop-at}
 use Rattle.rows.specs.Rows.{bytesOf, clearFrom}
 use Rattle.shingle.specs.Table.{shinglesIn}
-use Rattle.sketch.specs.Sums.{sumAt, along, sums, rowBytes, Added}
+use Rattle.sketch.specs.Sums.{sumAt, along, sums, plus, rowBytes, Added}
 use Rattle.sketch.specs.Cells.{allParts, cellsOf, fillAnswer, fillTable, Filled}
+use Rattle.sketch.proofs.Difference.{plus-sums}
 
 zero-along : (n i : ℕ) → rowBytes (along n i (λ (k : ℕ). 0)) ≡ replicate (n * 8) 0
 unfolding rowBytes along bytesOf
@@ -53,7 +54,10 @@ filled q shingles t t₁ p low high room c f =
     ∙ (ap (λ (k : ℕ). replicate {A = ℕ} k 0) {x = q * 120} {y = q * 15 * 8} (omega arith) ∙ sym (no-sums (q * 15)))) in
     let back : drop (q * 120) t₁ ≡ replicate (length t - q * 120) 0 =
     ap (drop (q * 120)) zeros ∙ drop-at (replicate (q * 120) 0) _ (q * 120) (length-replicate {A = ℕ} (q * 120) 0) in
-    let cells : p ≡ rowBytes (cellsOf q (shinglesIn shingles)) = f .more (q * 15) [] front in
+    let added : p ≡ rowBytes (plus (sums (q * 15) []) (allParts q (shinglesIn shingles))) ++ [] =
+    f .more (sums (q * 15) []) [] (omega arith) (front ∙ sym (append-nil (rowBytes (sums (q * 15) [])))) in
+    let cells : p ≡ rowBytes (cellsOf q (shinglesIn shingles)) =
+    added ∙ (append-nil _ ∙ ap rowBytes (plus-sums (q * 15) [] (allParts q (shinglesIn shingles)))) in
     record {
       answer = rw (le-leb 1 q low, le-leb q 64 high, le-leb (q * 120) (length t) room);
       table = rw (le-leb 1 q low, le-leb q 64 high, le-leb (q * 120) (length t) room, cells, back);

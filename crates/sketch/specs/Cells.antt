@@ -31,14 +31,14 @@ tagOf j s = hashOf (j ∷ shingleBytes s)
 unfoldable pub cellOf : ℕ → ℕ → Shingle → ℕ
 cellOf q j s = j * q + tagOf j s % q
 
--- "A cell has five sums ..: number of shingles, previous ids, own ids, tails, F(3)": summands for cell i, one shingle's.
-unfoldable pub fiveParts : (i previous own tail tag : ℕ) → List Part
-fiveParts i previous own tail tag =
-    part (i * 5) 1 ∷ part (i * 5 + 1) previous ∷ part (i * 5 + 2) own ∷ part (i * 5 + 3) tail ∷ part (i * 5 + 4) tag ∷ []
+-- "A cell has five sums ..: number of shingles, previous ids, own ids, tails, F(3)": summands for cell i, one of each.
+unfoldable pub fiveParts : (i number previous own tail tag : ℕ) → List Part
+fiveParts i number previous own tail tag =
+    part (i * 5) number ∷ part (i * 5 + 1) previous ∷ part (i * 5 + 2) own ∷ part (i * 5 + 3) tail ∷ part (i * 5 + 4) tag ∷ []
 
 -- What a shingle adds to cell i.
 unfoldable pub inCell : ℕ → Shingle → List Part
-inCell i s = fiveParts i (s .previous) (s .own) (tailOf s) (tagOf 3 s)
+inCell i s = fiveParts i 1 (s .previous) (s .own) (tailOf s) (tagOf 3 s)
 
 -- What a shingle adds to its three cells.
 unfoldable pub partsOf : ℕ → Shingle → List Part

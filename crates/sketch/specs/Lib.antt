@@ -2,3 +2,4 @@
 pub mod Cells
 pub mod Sums
 pub mod Opening
+pub mod Putting

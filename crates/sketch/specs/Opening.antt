@@ -5,8 +5,10 @@ use mathlib.Core.Path.{_≡_}
 use Prim.Native.Nat.{ℕ, zero, suc, _+_, _*_, _-_, _/_, _%_, _^_}
 use lib.Dec.{leb, ltb, eqb}
 use lib.ListN.{length, getD}
+use Rattle.entries.specs.Order.{earlier}
+use Rattle.sort.specs.Sort.{sortOf}
 use Rattle.shingle.specs.declared.Shingle.{Shingle}
-use Rattle.shingle.specs.Shingles.{pairOf, lower}
+use Rattle.shingle.specs.Shingles.{pairOf}
 use Rattle.shingle.specs.Table.{holds}
 use Rattle.shingle.specs.Rising.{samePair}
 use Rattle.sketch.specs.Sums.{Part, sums, neg, negated, plus, differenceOf}
@@ -139,18 +141,17 @@ unfoldable pub kept : List Shingle → List Shingle → List Shingle
 kept gone [] = []
 kept gone (s ∷ ss) = cond (holds s gone) (kept gone ss) (s ∷ kept gone ss)
 
--- A shingle put into a sorted list: "sorted by level, previous id, own id".
-unfoldable pub placed : Shingle → List Shingle → List Shingle
-placed s [] = s ∷ []
-placed s (x ∷ xs) = cond (lower (pairOf x) (pairOf s)) (x ∷ placed s xs) (s ∷ x ∷ xs)
+-- "sorted by level, previous id, own id, unsigned". Where a table lists a pair with several counts, the lower count is first.
+unfoldable pub before : Shingle → Shingle → Bool
+before a b = earlier (a .level) (a .previous) (a .own) (b .level) (b .previous) (b .own) (ltb (a .count) (b .count))
 
-unfoldable pub allPlaced : List Shingle → List Shingle → List Shingle
-allPlaced [] ss = ss
-allPlaced (s ∷ new) ss = placed s (allPlaced new ss)
+-- The own list without the shingles that are gone and with the new ones, sorted.
+unfoldable pub renewed : (own gone new : List Shingle) → List Shingle
+renewed own gone new = sortOf before (kept gone own ++ new)
 
--- The new list: the own one without the negative ones and with the positive ones, sorted.
+-- The new list: the own one without the negative ones and with the positive ones.
 unfoldable pub newList : List Shingle → List Signed → List Shingle
-newList own zs = allPlaced (positives zs) (allPlaced (kept (negatives zs) own) [])
+newList own zs = renewed own (negatives zs) (positives zs)
 
 -- "no pair twice at one level"
 unfoldable pub pairIn : Shingle → List Shingle → Bool

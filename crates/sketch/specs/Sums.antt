@@ -1,8 +1,8 @@
 -- A table of sums modulo 2^64, as lent bytes hold it: summands, each for one row, and the sums that they give.
-use mathlib.Core.Bool.{cond}
+use mathlib.Core.Bool.{Bool, cond}
 use mathlib.Core.List.{List, [], _∷_, _++_}
 use mathlib.Core.Path.{_≡_}
-use Prim.Native.Nat.{ℕ, zero, suc, _+_, _*_, _-_, _/_, _%_, _^_}
+use Prim.Native.Nat.{ℕ, zero, suc, _+_, _*_, _-_, _/_, _%_, _^_, _<_}
 use lib.Dec.{eqb}
 use lib.ListN.{length, getD, drop}
 use Rattle.rows.specs.Rows.{bytesOf, wordsOf}
@@ -33,6 +33,10 @@ sums n ps = along n 0 (λ (k : ℕ). sumAt k ps % 2 ^ 64)
 unfoldable pub neg : ℕ → ℕ
 neg b = (2 ^ 64 - b % 2 ^ 64) % 2 ^ 64
 
+-- A value with its sign, modulo 2^64.
+unfoldable pub withSign : Bool → ℕ → ℕ
+withSign negative x = cond negative (neg x) x
+
 -- "subtract own cells from the sender's", row by row.
 unfoldable pub minus : ℕ → ℕ → ℕ
 minus a b = (a + neg b) % 2 ^ 64
@@ -62,6 +66,6 @@ rowLess theirs own k = minus (getD (wordsOf theirs) k 0) (getD (wordsOf own) k 0
 unfoldable pub subtracted : List ℕ → List ℕ → List ℕ → List ℕ
 subtracted theirs own t = rowBytes (along (length t / 8) 0 (rowLess theirs own)) ++ drop (length t / 8 * 8) t
 
--- A table of sums of n rows has these summands more.
+-- The rows of a table have these summands more. Fewer than eight bytes after its rows are as before.
 pub record Added (before after : List ℕ) (ps : List Part) : Type 0 where
-  pub more : (n : ℕ) (old : List Part) → before ≡ rowBytes (sums n old) → after ≡ rowBytes (sums n (old ++ ps))
+  pub more : (rows rest : List ℕ) → length rest < 8 → before ≡ rowBytes rows ++ rest → after ≡ rowBytes (plus rows ps) ++ rest

@@ -4,6 +4,8 @@ mod hashing;
 
 ghost use mathlib.Core.Path.{_≡_};
 ghost use Rattle.sketch.specs.Cells.{tagOf, Filled};
+ghost use Rattle.sketch.specs.Opening.{signed};
+ghost use Rattle.sketch.specs.Putting.{putIn};
 ghost use Rattle.sketch.specs.Sums.{subtracted};
 use shingle::Shingle;
 
@@ -32,6 +34,20 @@ pub fn fill_cells(q: u64, shingles: &[u8], cells: &mut [u8]) -> u64
     rows::clear(cells, 0);
     adding::add_all(&mut cells[..size], q, shingles);
     0
+}
+
+// Puts a shingle into its three cells with a sign: each of its five values is added, or subtracted where it is negative, modulo
+// 2^64. Where q is not 1 to 64 the cell table is left as it is.
+pub fn put(cells: &mut [u8], q: u64, negative: bool, s: Shingle)
+    ensures { λ _. ⌜ now (cells .exit) ≡ putIn q (signed negative s) (now (cells .entry)) ⌝ }
+{
+    if q == 0 {
+        return;
+    }
+    if 64 < q {
+        return;
+    }
+    adding::add_shingle(cells, q, negative, s);
 }
 
 // Subtracts own cells from the sender's, row by row modulo 2^64, into the rows of a third table. Where one of the two has no such

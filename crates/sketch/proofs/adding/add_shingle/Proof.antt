@@ -1,14 +1,29 @@
--- Three cells, one after the other: the law `three-cells`.
+-- Five values with a sign, then three cells, one after the other: the law `three-cells`.
 use borrow.Author.Needs.{needs}
-use Rattle.sketch.proofs.Cells.{one-cell, three-cells}
+use Rattle.sketch.proofs.Cells.{five-of, one-cell, three-cells}
 use Rattle.sketch.proofs.adding.add_shingle.Statement.{statement}
 use Rattle.sketch.proofs.adding.add_shingle.Tie as tie
+
+with-sign-requires : tie.Need-with-sign-requires
+with-sign-requires c κs = search needs
+
+with-sign-requires-2 : tie.Need-with-sign-requires-2
+with-sign-requires-2 c κs = search needs
+
+with-sign-requires-3 : tie.Need-with-sign-requires-3
+with-sign-requires-3 c κs = search needs
 
 tail-requires : tie.Need-tail-requires
 tail-requires c κs = search needs
 
+with-sign-requires-4 : tie.Need-with-sign-requires-4
+with-sign-requires-4 c κs = search needs
+
 tag-requires : tie.Need-tag-requires
 tag-requires c κs = search needs
+
+with-sign-requires-5 : tie.Need-with-sign-requires-5
+with-sign-requires-5 c κs = search needs
 
 cell-requires : tie.Need-cell-requires
 cell-requires c κs = search needs
@@ -42,20 +57,31 @@ returns c =
     let third = one .before .before in
     let second = third .before in
     let first = second .before in
-    let tag = first .before in
-    let tail = tag .before .tail .ensures in
-    let check = tag .tag .ensures in
-    three-cells _ _
-    (one-cell _ _ _ _ _ _ (first .cell .ensures) tail check (one .add-cell .ensures))
-    (one-cell _ _ _ _ _ _ (second .cell2 .ensures) tail check (two .add-cell2 .ensures))
-    (one-cell _ _ _ _ _ _ (third .cell3 .ensures) tail check (three .add-cell3 .ensures))
+    let check = first .before in
+    let tag = check .before in
+    let tail = tag .before in
+    let low = tail .before in
+    let own = low .before in
+    let previous = own .before in
+    let number = previous .before in
+    let five = five-of (number .with-sign .ensures) (previous .with-sign2 .ensures) (own .with-sign3 .ensures) (low .tail .ensures)
+    (tail .with-sign4 .ensures) (tag .tag .ensures) (check .with-sign5 .ensures) in
+    three-cells _ _ _
+    (one-cell _ _ _ _ _ (first .cell .ensures) five (one .add-cell .ensures))
+    (one-cell _ _ _ _ _ (second .cell2 .ensures) five (two .add-cell2 .ensures))
+    (one-cell _ _ _ _ _ (third .cell3 .ensures) five (three .add-cell3 .ensures))
 
 pub add-shingle-spec : {M : Type 1} → statement M
 add-shingle-spec =
     tie.close
     (tie.spec
+    with-sign-requires
+    with-sign-requires-2
+    with-sign-requires-3
     tail-requires
+    with-sign-requires-4
     tag-requires
+    with-sign-requires-5
     cell-requires
     cell-requires-2
     mul-cell

@@ -1,0 +1,69 @@
+// The questions that an opening sketch is asked, each answered by its number where it refuses.
+ghost use mathlib.Core.Path.{_≡_};
+ghost use Rattle.tree.specs.Questions.{ask};
+ghost use Rattle.shingle.specs.Table.{shinglesIn};
+ghost use Rattle.opening.specs.Steps.{sizeRefusal, opensWith};
+use super::list;
+use super::pairs;
+use super::taken;
+
+// Questions 3, 5 and 7, of the settings and of the lengths of what is lent.
+pub fn sizes(levels: u64, width: u64, theirs: usize, own: usize, shingles: usize) -> u64
+    ensures { λ r. ⌜ r ≡ sizeRefusal levels width theirs own shingles ⌝ }
+{
+    if levels < 1 {
+        return 3;
+    }
+    if levels > 4 {
+        return 3;
+    }
+    if width < 1 {
+        return 5;
+    }
+    if width > 64 {
+        return 5;
+    }
+    let cells = width as usize * 120;
+    if theirs < cells {
+        return 7;
+    }
+    if own < cells {
+        return 7;
+    }
+    if shingles < 98304 {
+        return 7;
+    }
+    0
+}
+
+// Whether the sketch opens, from what was taken and whether all cells ended at 0.
+pub fn opens(empty: bool, new: &[u8], gone: &[u8], own: &[u8]) -> bool
+    ensures { λ r. ⌜ r ≡ opensWith empty (shinglesIn (now (new .entry))) (shinglesIn (now (gone .entry))) (shinglesIn (now (own .entry))) ⌝ }
+{
+    if !empty {
+        return false;
+    }
+    if !taken::none_twice(gone) {
+        return false;
+    }
+    if !taken::all_in(own, gone) {
+        return false;
+    }
+    if !taken::none_in(own, new) {
+        return false;
+    }
+    if list::number(new, gone, own) > 4096 {
+        return false;
+    }
+    pairs::once(new, gone, own)
+}
+
+// Question 14.
+pub fn last(opened: bool) -> u64
+    ensures { λ r. ⌜ r ≡ ask opened 14 0 ⌝ }
+{
+    if opened {
+        return 0;
+    }
+    14
+}

@@ -1,0 +1,21 @@
+-- What is proved of the definitions.
+pub mod Cases
+pub mod FirstHalf
+pub mod Exactly
+pub mod Members
+pub mod Blocks
+pub mod Pending
+pub mod References
+pub mod Replies
+pub mod Matching
+pub mod Stages
+pub mod Accepting
+pub mod Renewed
+pub mod Tables
+pub mod Memory
+pub mod Valid
+pub mod Session
+pub mod Own
+pub mod Demand
+pub mod Progress
+pub mod Witness

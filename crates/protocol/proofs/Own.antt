@@ -1,0 +1,305 @@
+-- A sender that was set up replies with genuine messages: over the tables that its setup left, the first entry of a level and id is the
+-- first such block of the tree, and the ids one level down after it are its children's.
+use mathlib.Core.Bool.{Bool, true, false, cond, _&&_}
+use mathlib.Core.List.{List, [], _∷_, _++_, map, append-assoc, append-nil}
+use mathlib.Core.Option.{some}
+use mathlib.Core.Path.{_≡_, refl, sym, ap, subst, _∙_}
+use Prim.Native.Nat.{ℕ, zero, suc, _+_, _/_, _≤_, _<_}
+use native.Mathlib.Omega.{arith}
+use native.Mathlib.Decide.{decLt}
+use lib.Dec.{eqb, leb, ltb}
+use lib.ListN.{length, getD, drop, drop-of-length-le}
+use lib.Seq.{drop-cons}
+use borrow.Author.Tests.{eqb-true, eq-eqb, ne-eqb, le-leb, lt-leb, ltb-true}
+use Rattle.fnv.specs.Fnv.{blockId}
+use Rattle.fnv.proofs.Fnv.{block-id-nonzero}
+use Rattle.tree.specs.declared.Settings.{Settings}
+use Rattle.tree.specs.Tree.{Node, node, childrenOf, inTurn, treeOf, nodesOf}
+use Rattle.tree.specs.Laws.{content, Each, none as none-within, both as both-within, Within}
+use Rattle.tree.specs.Table.{idAt, treeRefusal, treeTable}
+use Rattle.tree.proofs.Tree.{each-at, nodes-within}
+use Rattle.tree.proofs.Listed.{node-listed, none-listed}
+use Rattle.shingle.specs.declared.Shingle.{Shingle}
+use Rattle.shingle.proofs.PairOrder.{and-true}
+use Rattle.sort.specs.Shell.{total}
+use Rattle.sketch.specs.Cells.{cellsOf}
+use Rattle.setup.specs.Tables.{shinglesOfString}
+use Rattle.setup.proofs.Accepted.{setup-passed, nodes-length, first-id}
+use Rattle.trail.specs.Trails.{trailNumber}
+use Rattle.trail.specs.Calls.{nonzero}
+use Rattle.message.specs.Messages.{Msg, openingQuery, nodeQuery, opening, composition, literal, noNode, encode, Valid}
+use Rattle.message.proofs.Messages.{parse-encode}
+use Rattle.protocol.specs.Lent.{Lent}
+use Rattle.protocol.specs.Nodes.{Entry, entryAt, inside, entriesFrom, entriesIn, blockIn, fromFirst}
+use Rattle.protocol.specs.Sender.{ruleNumber, childIds, composable, refsOf, nodeReply, openingReply, replyTo}
+use Rattle.protocol.specs.Genuine.{blocksOf, Accepted, childrenIds, firstOf, IsBlockReply, IsNodeReply, IsReply}
+use Rattle.protocol.specs.Demand.{SetupAccepts, leftBySetup, Announces}
+use Rattle.protocol.proofs.Memory.{made, nodes-is, accepted, cells-again, list-again}
+use Rattle.protocol.proofs.Cases.{same-message, no-message}
+use Rattle.protocol.proofs.Valid.{valid-reply}
+
+-- A node as its entry.
+abbrev entryOf : Node → Entry
+entryOf n = record { level = n .level; id = blockId (n .bytes); start = n .start; size = length (n .bytes) }
+
+-- The entries of a tree's table are its nodes.
+module _ (σ : Settings) (string nodes : List ℕ) (accepted : treeRefusal σ string (length nodes) ≡ 0) where
+  abbrev table : List ℕ
+  table = treeTable σ string nodes
+
+  abbrev tree : List Node
+  tree = nodesOf σ string
+
+  abbrev nothing : Node
+  nothing = node 0 0 []
+
+  entry-is : (k : ℕ) → k < length tree → entryAt table k ≡ entryOf (getD tree k nothing)
+  entry-is k h =
+      let l = node-listed σ string nodes accepted k nothing h in
+      λ i. record { level = l .level i; id = l .id i; start = l .start i; size = l .size i }
+
+  entries-are : (left k : ℕ) → length tree ≤ left + k → entriesFrom table (length string) left k ≡ map entryOf (drop k tree)
+  unfolding entriesFrom
+  entries-are zero k h = sym (ap (map entryOf) (drop-of-length-le tree {i = k} (omega (arith, h))))
+  entries-are (suc left) k h =
+      elim (decLt k (length tree)) [
+        | yes l ↦
+            let n = getD tree k nothing in
+            let e = entry-is k l in
+            let here : idAt table k ≡ blockId (n .bytes) = ap (λ (x : Entry). x .id) e in
+            let within = each-at (nodes-within σ string) k nothing l in
+            let fits : inside (length string) (entryAt table k) ≡ true =
+            ap (inside (length string)) e ∙ le-leb (n .start + length (n .bytes)) (length string) (within .inside) in
+            let next : k + 1 ≡ suc k = omega arith in
+            let rest = entries-are left (k + 1) (omega (arith, h)) ∙ ap (λ (j : ℕ). map entryOf (drop j tree)) next in
+            rw (ne-eqb (idAt table k) 0 (λ z. block-id-nonzero (n .bytes) (sym here ∙ z)), fits, drop-cons tree k nothing l) (λ i. e i ∷ rest i)
+        | no l ↦
+            rw (eq-eqb (idAt table k) 0 (none-listed σ string nodes accepted k (omega (arith, l))), drop-of-length-le tree {i = k} (omega (arith, l))) refl
+      ]
+
+-- The ids one level down, before the next node that is not deeper.
+unfoldable kidsIn : ℕ → List Node → List ℕ
+kidsIn l [] = []
+kidsIn l (n ∷ ns) = cond (leb (n .level) l) [] (cond (eqb (n .level) (l + 1)) (blockId (n .bytes) ∷ kidsIn l ns) (kidsIn l ns))
+
+kids-in : (l : ℕ) (ns : List Node) → childIds l (map entryOf ns) ≡ kidsIn l ns
+unfolding childIds kidsIn
+kids-in l [] = refl
+kids-in l (n ∷ ns) =
+    λ i. cond (leb (n .level) l) [] (cond (eqb (n .level) (l + 1)) (blockId (n .bytes) ∷ kids-in l ns i) (kids-in l ns i))
+
+-- The list ends, or goes on with a node of level l or above it.
+pub data Stops (l : ℕ) : List Node → Type 0 where
+  end : Stops l []
+  back : {n : Node} {ns : List Node} → n .level ≤ l → Stops l (n ∷ ns)
+
+stops-here : {l : ℕ} {ns : List Node} → Stops l ns → kidsIn l ns ≡ []
+unfolding kidsIn
+stops-here end = refl
+stops-here {l} (back {n = n} h) = rw (le-leb (n .level) l h) refl
+
+stops-later : {l k : ℕ} {ns : List Node} → l ≤ k → Stops l ns → Stops k ns
+stops-later h end = end
+stops-later h (back {n = n} k) = back {n = n} (omega (arith, h, k))
+
+module _ (σ : Settings) where
+  -- Nodes that are more than one level down are passed over.
+  skip-one : (l level start : ℕ) (bytes : List ℕ) (ns : List Node) → l + 1 < level → kidsIn l (node level start bytes ∷ ns) ≡ kidsIn l ns
+  unfolding kidsIn
+  skip-one l level start bytes ns h = rw (lt-leb level l (omega (arith, h)), ne-eqb level (l + 1) (λ e. omega (arith, e, h))) refl
+
+  skip-turns : (l : ℕ) (f : ℕ → List ℕ → List Node) → ((a : ℕ) (b : List ℕ) (tail : List Node) → kidsIn l (f a b ++ tail) ≡ kidsIn l tail)
+      → (a : ℕ) (bs : List (List ℕ)) (tail : List Node) → kidsIn l (inTurn f a bs ++ tail) ≡ kidsIn l tail
+  unfolding inTurn
+  skip-turns l f skip a [] tail = refl
+  skip-turns l f skip a (b ∷ bs) tail =
+      ap (kidsIn l) (append-assoc (f a b) (inTurn f (a + length b) bs) tail)
+      ∙ (skip a b (inTurn f (a + length b) bs ++ tail) ∙ skip-turns l f skip (a + length b) bs tail)
+
+  skip-tree : (l left level start : ℕ) (bytes : List ℕ) (tail : List Node) → l + 1 < level → kidsIn l (treeOf σ left level start bytes ++ tail) ≡ kidsIn l tail
+  unfolding treeOf
+  skip-tree l zero level start bytes tail h = skip-one l level start bytes tail h
+  skip-tree l (suc left) level start bytes tail h =
+      skip-one l level start bytes (inTurn (treeOf σ left (level + 1)) start (childrenOf σ (level + 1) bytes) ++ tail) h
+      ∙ skip-turns l (treeOf σ left (level + 1)) (λ a b t. skip-tree l left (level + 1) a b t (omega (arith, h))) start (childrenOf σ (level + 1) bytes) tail
+
+  -- Each child's subtree gives the child's id.
+  kid-here : (l start : ℕ) (bytes : List ℕ) (ns : List Node) → kidsIn l (node (l + 1) start bytes ∷ ns) ≡ blockId bytes ∷ kidsIn l ns
+  unfolding kidsIn
+  kid-here l start bytes ns = rw (lt-leb (l + 1) l (omega arith), eq-eqb (l + 1) (l + 1) refl) refl
+
+  kid-tree : (l left start : ℕ) (bytes : List ℕ) (tail : List Node) → kidsIn l (treeOf σ left (l + 1) start bytes ++ tail) ≡ blockId bytes ∷ kidsIn l tail
+  unfolding treeOf
+  kid-tree l zero start bytes tail = kid-here l start bytes tail
+  kid-tree l (suc left) start bytes tail =
+      kid-here l start bytes (inTurn (treeOf σ left (l + 1 + 1)) start (childrenOf σ (l + 1 + 1) bytes) ++ tail)
+      ∙ ap (λ (ids : List ℕ). blockId bytes ∷ ids)
+      (skip-turns l (treeOf σ left (l + 1 + 1)) (λ a b t. skip-tree l left (l + 1 + 1) a b t (omega arith)) start (childrenOf σ (l + 1 + 1) bytes) tail)
+
+  kid-turns : (l left start : ℕ) (bs : List (List ℕ)) (tail : List Node) → kidsIn l (inTurn (treeOf σ left (l + 1)) start bs ++ tail) ≡ map blockId bs ++ kidsIn l tail
+  unfolding inTurn
+  kid-turns l left start [] tail = refl
+  kid-turns l left start (b ∷ bs) tail =
+      let here = treeOf σ left (l + 1) start b in
+      let rest = inTurn (treeOf σ left (l + 1)) (start + length b) bs in
+      ap (kidsIn l) (append-assoc here rest tail)
+      ∙ (kid-tree l left start b (rest ++ tail) ∙ ap (λ (ids : List ℕ). blockId b ∷ ids) (kid-turns l left (start + length b) bs tail))
+
+  tree-stops : (left l start : ℕ) (bytes : List ℕ) (tail : List Node) → Stops l (treeOf σ left l start bytes ++ tail)
+  unfolding treeOf
+  tree-stops zero l start bytes tail = back {n = node l start bytes} (omega arith)
+  tree-stops (suc left) l start bytes tail = back {n = node l start bytes} (omega arith)
+
+  turns-stop : (left l a : ℕ) (bs : List (List ℕ)) (tail : List Node) → Stops (l + 1) tail → Stops (l + 1) (inTurn (treeOf σ left (l + 1)) a bs ++ tail)
+  unfolding inTurn
+  turns-stop left l a [] tail h = h
+  turns-stop left l a (b ∷ bs) tail h =
+      let here = treeOf σ left (l + 1) a b in
+      let rest = inTurn (treeOf σ left (l + 1)) (a + length b) bs in
+      subst (Stops (l + 1)) (sym (append-assoc here rest tail)) (tree-stops left (l + 1) a b (rest ++ tail))
+
+  -- Every node that is not of the last level is followed by its children.
+  unfoldable Tidy : List Node → Type 0
+  Tidy [] = Unit {0}
+  Tidy (n ∷ ns) = (n .level < σ .levels → kidsIn (n .level) ns ≡ childrenIds σ (n .level) (n .bytes)) × Tidy ns
+
+  -- Subtrees of level l: what follows them stops at the level above.
+  tidy-turns : (left l : ℕ) → ((a : ℕ) (b : List ℕ) (tail : List Node) → Stops (l + 1) tail → Tidy tail → Tidy (treeOf σ left (l + 1) a b ++ tail))
+      → (a : ℕ) (bs : List (List ℕ)) (tail : List Node) → Stops (l + 1) tail → Tidy tail → Tidy (inTurn (treeOf σ left (l + 1)) a bs ++ tail)
+  unfolding inTurn
+  tidy-turns left l tidy a [] tail stops h = h
+  tidy-turns left l tidy a (b ∷ bs) tail stops h =
+      let here = treeOf σ left (l + 1) a b in
+      let rest = inTurn (treeOf σ left (l + 1)) (a + length b) bs in
+      subst Tidy (sym (append-assoc here rest tail))
+      (tidy a b (rest ++ tail) (turns-stop left l (a + length b) bs tail stops) (tidy-turns left l tidy (a + length b) bs tail stops h))
+
+  tidy-tree : (left level start : ℕ) (bytes : List ℕ) (tail : List Node) → level + left ≡ σ .levels → Stops level tail → Tidy tail
+      → Tidy (treeOf σ left level start bytes ++ tail)
+  unfolding treeOf Tidy childrenIds
+  tidy-tree zero level start bytes tail depth stops h = (λ l. absurd (omega (arith, l, depth)), h)
+  tidy-tree (suc left) level start bytes tail depth stops h =
+      let kids = childrenOf σ (level + 1) bytes in (
+        λ l. kid-turns level left start kids tail ∙ (ap (λ (ids : List ℕ). map blockId kids ++ ids) (stops-here stops) ∙ append-nil (map blockId kids)),
+        tidy-turns left level (λ a b t s k. tidy-tree left (level + 1) a b t (omega (arith, depth)) s k) start kids tail (stops-later (omega arith) stops) h,
+      )
+
+  tidy-nodes : (string : List ℕ) → Tidy (nodesOf σ string)
+  unfolding nodesOf
+  tidy-nodes string = subst Tidy (append-nil (treeOf σ (σ .levels) 0 0 string)) (tidy-tree (σ .levels) 0 0 string [] (omega arith) end (unfold Tidy in tt))
+
+-- The first node of a level and id, with what follows it.
+unfoldable fromNode : ℕ → ℕ → List Node → List Node
+fromNode l i [] = []
+fromNode l i (n ∷ ns) = cond (eqb (n .level) l && eqb (blockId (n .bytes)) i) (n ∷ ns) (fromNode l i ns)
+
+from-node : (l i : ℕ) (ns : List Node) → fromFirst (λ e. eqb (e .level) l && eqb (e .id) i) (map entryOf ns) ≡ map entryOf (fromNode l i ns)
+unfolding fromFirst fromNode
+from-node l i [] = refl
+from-node l i (n ∷ ns) = go (eqb (n .level) l && eqb (blockId (n .bytes)) i) (from-node l i ns)
+  where
+    go : (t : Bool) → fromFirst (λ e. eqb (e .level) l && eqb (e .id) i) (map entryOf ns) ≡ map entryOf (fromNode l i ns)
+        → cond t (map entryOf (n ∷ ns)) (fromFirst (λ e. eqb (e .level) l && eqb (e .id) i) (map entryOf ns)) ≡ map entryOf (cond t (n ∷ ns) (fromNode l i ns))
+    go true e = refl
+    go false e = e
+
+-- The reply over the nodes of a tree.
+module _ (σ : Settings) (string : List ℕ) (n l i : ℕ) where
+  abbrev list : List Shingle
+  list = shinglesOfString σ string
+
+  module _ (x : Node) (ns : List Node) (level : x .level ≡ l) (kids : x .level < σ .levels → kidsIn (x .level) ns ≡ childrenIds σ (x .level) (x .bytes))
+      (within : Within string (x .start) (x .bytes)) where
+    abbrev ids : List ℕ
+    ids = childIds l (map entryOf ns)
+
+    ids-are : l < σ .levels → ids ≡ childrenIds σ l (x .bytes)
+    ids-are h =
+        kids-in l ns
+        ∙ (ap (λ (k : ℕ). kidsIn k ns) (sym level) ∙ (kids (omega (arith, level, h)) ∙ ap (λ (k : ℕ). childrenIds σ k (x .bytes)) level))
+
+    shallow-only : (a b : List ℕ) → (l < σ .levels → a ≡ b) → composable σ l a ≡ composable σ l b
+    unfolding composable
+    shallow-only a b e = go (ltb l (σ .levels)) refl
+      where
+        go : (t : Bool) → ltb l (σ .levels) ≡ t
+            → (t && (ltb 0 (length a) && (ltb (length a) 33 && (nonzero a && ltb (trailNumber a) 4096))))
+            ≡ (t && (ltb 0 (length b) && (ltb (length b) 33 && (nonzero b && ltb (trailNumber b) 4096))))
+        go true f = ap (λ (c : List ℕ). ltb 0 (length c) && (ltb (length c) 33 && (nonzero c && ltb (trailNumber c) 4096))) (e (ltb-true l (σ .levels) f))
+        go false f = refl
+
+    deep-enough : (a : List ℕ) → composable σ l a ≡ true → l < σ .levels
+    unfolding composable
+    deep-enough a e = ltb-true l (σ .levels) (and-true (ltb l (σ .levels)) _ e .0)
+
+    block-reply : (t : Bool) → composable σ l ids ≡ t
+        → IsBlockReply σ string n l i (x .bytes) t (cond t (composition n l i (trailNumber ids) (refsOf list (l + 1) ids)) (literal n l i (blockIn string (entryOf x))))
+    unfolding IsBlockReply blockIn
+    block-reply true e =
+        let same = ids-are (deep-enough ids e) in
+        record {
+          refs = refsOf list (l + 1) ids;
+          order = record { same = λ f. ap (λ (c : List ℕ). total f (refsOf list (l + 1) c)) same };
+          is = ap (λ (c : List ℕ). composition n l i (trailNumber c) (refsOf list (l + 1) ids)) same;
+        }
+    block-reply false e = ap (literal n l i) (within .same)
+
+    first-reply : IsNodeReply σ string n l i (some (x .bytes)) (nodeReply σ string list n l i (map entryOf (x ∷ ns)))
+    unfolding IsNodeReply nodeReply
+    first-reply = rw (sym (shallow-only ids (childrenIds σ l (x .bytes)) ids-are)) (block-reply (composable σ l ids) refl)
+
+  nodes-reply : (ns : List Node) → Tidy σ ns → Each (λ x. Within string (x .start) (x .bytes)) ns
+      → IsNodeReply σ string n l i (firstOf l i (map content ns)) (nodeReply σ string list n l i (map entryOf (fromNode l i ns)))
+  unfolding firstOf fromNode Tidy
+  nodes-reply [] tidy none-within = unfold IsNodeReply nodeReply in refl
+  nodes-reply (x ∷ ns) tidy (both-within w ws) = go (eqb (x .level) l && eqb (blockId (x .bytes)) i) refl (nodes-reply ns (tidy .1) ws)
+    where
+      go : (t : Bool) → (eqb (x .level) l && eqb (blockId (x .bytes)) i) ≡ t
+          → IsNodeReply σ string n l i (firstOf l i (map content ns)) (nodeReply σ string list n l i (map entryOf (fromNode l i ns)))
+          → IsNodeReply σ string n l i (cond t (some (x .bytes)) (firstOf l i (map content ns))) (nodeReply σ string list n l i (map entryOf (cond t (x ∷ ns) (fromNode l i ns))))
+      go true e rest = first-reply x ns (eqb-true _ _ (and-true (eqb (x .level) l) _ e .0)) (tidy .0) w
+      go false e rest = rest
+
+-- A sender's replies, its state and tables as its setup left them, are genuine.
+module _ (σ : Settings) (m : Lent) (set-up : SetupAccepts σ m) where
+  abbrev left : Lent
+  left = leftBySetup σ m
+
+  entries-left : entriesIn (left .nodes) (length (m .string)) ≡ map entryOf (nodesOf σ (m .string))
+  unfolding entriesIn
+  entries-left =
+      let given = setup-passed σ (m .string) true (m .nodes) (m .shingles) (m .cells) set-up in
+      let long = nodes-length σ (m .string) (m .nodes) (left .nodes) (m .shingles) (left .shingles) (m .cells) (left .cells) true _ (made σ m set-up) in
+      ap (λ (t : List ℕ). entriesFrom t (length (m .string)) (length (left .nodes) / 16) 0) (nodes-is σ m set-up)
+      ∙ entries-are σ (m .string) (m .nodes) (accepted σ m set-up) (length (left .nodes) / 16) 0 (omega (arith, given .2, given .1 .node-room, long))
+
+  pub replies-genuine : (query x : Msg) → replyTo σ left query ≡ some x → IsReply σ (m .string) query x
+  unfolding replyTo IsReply openingReply blocksOf
+  replies-genuine (openingQuery n) x e =
+      let id = first-id σ (m .string) (m .nodes) (left .nodes) (m .shingles) (left .shingles) (m .cells) (left .cells) true _ (made σ m set-up) set-up in
+      let rows = cells-again σ m set-up in
+      sym (same-message e)
+      ∙ (λ j. opening n ruleNumber (σ .window) (σ .«fan_out») (σ .levels) (σ .nominal) (σ .width) (length (m .string)) (id j) (rows j))
+  replies-genuine (nodeQuery n l i) x e =
+      let list = list-again σ m set-up in
+      let is : x ≡ nodeReply σ (m .string) (shinglesOfString σ (m .string)) n l i (map entryOf (fromNode l i (nodesOf σ (m .string)))) =
+      sym (same-message e)
+      ∙ (λ j. nodeReply σ (m .string) (list j) n l i (fromFirst (λ e. eqb (e .level) l && eqb (e .id) i) (entries-left j)))
+      ∙ ap (nodeReply σ (m .string) (shinglesOfString σ (m .string)) n l i) (from-node l i (nodesOf σ (m .string))) in
+      rw is (nodes-reply σ (m .string) n l i (nodesOf σ (m .string)) (tidy-nodes σ (m .string)) (nodes-within σ (m .string)))
+  replies-genuine (opening n rule w p L M q size root cells) x e = absurd (no-message e)
+  replies-genuine (composition n l i y refs) x e = absurd (no-message e)
+  replies-genuine (literal n l i bytes) x e = absurd (no-message e)
+  replies-genuine (noNode n l i) x e = absurd (no-message e)
+
+-- The sender's own opening announces its string's length and id.
+pub own-announces : (σ : Settings) (string : List ℕ) (n : ℕ) (x : Msg) → Accepted σ string → Valid (openingQuery n) → IsReply σ string (openingQuery n) x → Announces string (encode x)
+unfolding IsReply
+own-announces σ string n x setup v r =
+    record {
+      session = n;
+      rule = ruleNumber;
+      settings = σ;
+      cells = cellsOf (σ .width) (shinglesOfString σ string);
+      is = parse-encode x (valid-reply σ string (openingQuery n) x setup v r) ∙ ap some r;
+    }

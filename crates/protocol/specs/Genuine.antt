@@ -1,0 +1,87 @@
+-- Genuine messages: document 01, "A sender's own opening is one written over the string its accepted setup took, with the tables as
+-- that setup left them. Its messages written so, with its state unaltered too, are the genuine ones."
+use mathlib.Core.Bool.{Bool, true, false, cond, _&&_}
+use mathlib.Core.List.{List, [], _∷_, map}
+use mathlib.Core.Option.{Option, none, some}
+use mathlib.Core.Path.{_≡_}
+use Prim.Native.Nat.{ℕ, _+_, _≤_, _<_}
+use lib.Dec.{eqb}
+use lib.ListN.{length}
+use Rattle.fnv.specs.Fnv.{blockId}
+use Rattle.tree.specs.declared.Settings.{Settings}
+use Rattle.tree.specs.Questions.{refusal}
+use Rattle.tree.specs.Tree.{childrenOf, nodesOf}
+use Rattle.tree.specs.Laws.{Content, content}
+use Rattle.sketch.specs.Cells.{cellsOf}
+use Rattle.setup.specs.Tables.{shinglesOfString}
+use Rattle.sort.specs.Shell.{Same}
+use Rattle.trail.specs.Trails.{trailNumber}
+use Rattle.message.specs.Words.{Ref}
+use Rattle.message.specs.Messages.{Msg, openingQuery, nodeQuery, opening, composition, literal, noNode, encode, Valid}
+use Rattle.protocol.specs.Sender.{ruleNumber, composable, refsOf}
+use Rattle.protocol.specs.Receiver.{sessionOf}
+use Rattle.protocol.specs.Calls.{Every}
+
+-- The blocks of a string's tree with their levels, in table order.
+unfoldable pub blocksOf : Settings → List ℕ → List Content
+blocksOf σ string = map content (nodesOf σ string)
+
+-- A setup over the byte string is accepted: questions 1 to 6 and 8. (7 is about the tables lent to it.)
+pub record Accepted (σ : Settings) (string : List ℕ) : Type 0 where
+  pub bytes : Every (λ (b : ℕ). b < 256) string
+  pub questions : refusal σ (length string) ≡ 0
+  pub few : length (nodesOf σ string) ≤ 4096
+
+-- The ids of a block's children.
+unfoldable pub childrenIds : Settings → ℕ → List ℕ → List ℕ
+childrenIds σ l bytes = map blockId (childrenOf σ (l + 1) bytes)
+
+-- A type 4 for a block of level l: "references in any order".
+pub record Composes (σ : Settings) (string : List ℕ) (n l i : ℕ) (bytes : List ℕ) (m : Msg) : Type 0 where
+  pub refs : List Ref
+  pub order : Same refs (refsOf (shinglesOfString σ string) (l + 1) (childrenIds σ l bytes))
+  pub is : m ≡ composition n l i (trailNumber (childrenIds σ l bytes)) refs
+
+-- "At level L, or with a trail number above 4,095: type 5. Else type 4".
+unfoldable pub IsBlockReply : Settings → List ℕ → (session level id : ℕ) → List ℕ → Bool → Msg → Type 0
+IsBlockReply σ string n l i bytes true m = Composes σ string n l i bytes m
+IsBlockReply σ string n l i bytes false m = m ≡ literal n l i bytes
+
+-- "it finds its first node of that level and id. None: type 6."
+unfoldable pub firstOf : ℕ → ℕ → List Content → Option (List ℕ)
+firstOf l i [] = none
+firstOf l i (c ∷ cs) = cond (eqb (c .level) l && eqb (blockId (c .bytes)) i) (some (c .bytes)) (firstOf l i cs)
+
+unfoldable pub IsNodeReply : Settings → List ℕ → (session level id : ℕ) → Option (List ℕ) → Msg → Type 0
+IsNodeReply σ string n l i none m = m ≡ noNode n l i
+IsNodeReply σ string n l i (some bytes) m = IsBlockReply σ string n l i bytes (composable σ l (childrenIds σ l bytes)) m
+
+-- The message is a reply to the query by a sender that was set up over the string.
+unfoldable pub IsReply : Settings → List ℕ → Msg → Msg → Type 0
+IsReply σ string (openingQuery n) m =
+    m ≡ opening n ruleNumber (σ .window) (σ .«fan_out») (σ .levels) (σ .nominal) (σ .width)
+    (length string) (blockId string) (cellsOf (σ .width) (shinglesOfString σ string))
+IsReply σ string (nodeQuery n l i) m = IsNodeReply σ string n l i (firstOf l i (blocksOf σ string)) m
+IsReply σ string (opening n rule w p L M q size root cells) m = ⊥
+IsReply σ string (composition n l i x refs) m = ⊥
+IsReply σ string (literal n l i bytes) m = ⊥
+IsReply σ string (noNode n l i) m = ⊥
+
+-- The bytes are a genuine reply to the query, which the sender read and which therefore is within its fields: some sender's, set up over
+-- some string. "A session number serves one string when, modulo
+-- 2^24, all sender setups that reply under it have that string and equal settings; under the receiver's number, that string and those
+-- settings are its sender's": asked here of the sender of this message, under the receiver's number.
+pub record GenuineReply (σ : Settings) (string : List ℕ) (session : ℕ) (query : Msg) (bytes : List ℕ) : Type 0 where
+  pub settings : Settings
+  pub sender : List ℕ
+  pub message : Msg
+  pub setup : Accepted settings sender
+  pub asked : Valid query
+  pub replies : IsReply settings sender query message
+  pub written : bytes ≡ encode message
+  pub serves : sessionOf query ≡ session → (settings ≡ σ) × (sender ≡ string)
+
+-- A genuine message, to whatever query and whenever it was written.
+pub record Genuine (σ : Settings) (string : List ℕ) (session : ℕ) (bytes : List ℕ) : Type 0 where
+  pub query : Msg
+  pub reply : GenuineReply σ string session query bytes

@@ -1,0 +1,4 @@
+-- Laws of a sender's state and of setting it up.
+pub mod Rows
+pub mod Outcome
+pub mod Accepted
