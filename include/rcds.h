@@ -40,12 +40,16 @@
  *  10  message well formed: whole words, kinds, order, fixed bits, first part
  *      of a 64-bit value at most 255, cells as many as its q, reference counts
  *      1 to 32, no index twice, end right, nothing after it?
+ *  11  message is a query: type 1 or 2?
  *  14  sketch opens?
  *  17  order: whole ids, 1 to RCDS_MAX_CHILDREN of them, none of them 0?
  *      multiset: whole entries, at most RCDS_MAX_CHILDREN of them, counts that
  *      add up to 1 to RCDS_MAX_CHILDREN, number at most RCDS_MAX_TRAIL_NUMBER,
  *      and a trail of that number?
  *  20  room for what is written?
+ *
+ * A sender's call asks 1 to 7 again, of the settings that its state holds and of
+ * what it is lent. A state that is too short reads as zeros, and is refused by 1.
  */
 #ifndef RCDS_H
 #define RCDS_H
@@ -303,6 +307,40 @@ uint64_t rcds_sender_setup(uint64_t w, uint64_t p, uint64_t levels,
                            uint8_t *shingles, size_t shingles_len,
                            uint8_t *cells, size_t cells_len,
                            uint8_t *state, size_t state_len);
+
+/*
+ * rcds_reply - a sender's reply to a message.
+ *
+ * state        the sender's state, as its setup left it. Not changed.
+ * string, nodes, shingles, cells
+ *              the string that the setup took and the tables that it left. Not
+ *              changed. Other content is met without stepping outside it; what
+ *              is then replied is no reply of that setup.
+ * message      the message, message_len bytes, and nothing else. Not changed.
+ * out          what the reply is written to, out_len bytes.
+ *
+ * To an opening query the reply is the opening: settings, the string's length,
+ * the id of the whole string, and the sketch's cells. To a node query it is a
+ * composition (the children of the first node with that level and id, as
+ * references to the shingle list and the number of their order), a literal (the
+ * node's bytes: at the last level, or where that number is above
+ * RCDS_MAX_TRAIL_NUMBER), or a none (there is no such node). The session is the
+ * message's.
+ *
+ * Asks 1 to 7, 10, 11, 20, in this order.
+ *
+ * Accepted: RCDS_COUNT of the answer is the number of bytes written, from the
+ * start of out. The bytes after them are unchanged.
+ *
+ * Refused: out is unchanged.
+ */
+uint64_t rcds_reply(const uint8_t *state, size_t state_len,
+                    const uint8_t *string, size_t string_len,
+                    const uint8_t *nodes, size_t nodes_len,
+                    const uint8_t *shingles, size_t shingles_len,
+                    const uint8_t *cells, size_t cells_len,
+                    const uint8_t *message, size_t message_len,
+                    uint8_t *out, size_t out_len);
 
 /*
  * rcds_sketch_open - open a sketch over the own shingle list.

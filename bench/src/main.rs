@@ -2,14 +2,18 @@
 //!
 //!     bench [GROUP...]
 //!
-//! The groups are `tree` and `trails`; none stands for all that are built in. A group is built in
-//! by the feature of its name, and all are, unless cargo is told otherwise.
+//! The groups are `tree`, `trails`, `setups` and `openings`; none stands for all that are built in. A
+//! group is built in by the feature of its name, and all are, unless cargo is told otherwise.
 //!
 //! A cost is counted in plain FNV-1a passes, which are timed in turn with the calls. Nothing here
 //! fails because of a time; a wrong answer stops the run.
 
 mod clock;
+#[cfg(feature = "openings")]
+mod openings;
 mod pass;
+#[cfg(feature = "setups")]
+mod setups;
 #[cfg(feature = "trails")]
 mod trails;
 #[cfg(feature = "tree")]
@@ -20,6 +24,10 @@ const GROUPS: &[(&str, fn())] = &[
     ("tree", tree::run),
     #[cfg(feature = "trails")]
     ("trails", trails::run),
+    #[cfg(feature = "setups")]
+    ("setups", setups::run),
+    #[cfg(feature = "openings")]
+    ("openings", openings::run),
 ];
 
 fn main() {

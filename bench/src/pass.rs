@@ -31,3 +31,26 @@ pub fn call_and_pass(repetitions: usize, bytes: &[u8], mut call: impl FnMut()) -
     }
     (least_call, least_pass)
 }
+
+/// The time of one call in microseconds, and in FNV-1a passes over 64 KiB.
+#[derive(Clone, Copy)]
+pub struct Cost {
+    pub microseconds: f64,
+    pub passes: f64,
+}
+
+/// Times a call in turn with passes over 64 KiB; a short call is repeated.
+pub fn cost(mut call: impl FnMut()) -> Cost {
+    let once = seconds(1, &mut call);
+    let repetitions = (0.000_1 / once.max(1e-8)).clamp(1.0, 1_000.0) as usize;
+    let (call, pass) = call_and_pass(repetitions, &[7; 65_536], call);
+    Cost {
+        microseconds: call * 1e6,
+        passes: call / pass,
+    }
+}
+
+/// Two cells of a table: microseconds and passes.
+pub fn cells(cost: &Cost) -> String {
+    format!("{:.1} | {:.3}", cost.microseconds, cost.passes)
+}

@@ -2,7 +2,7 @@
 
 use super::multisets::{trails, Asked};
 use crate::clock::seconds;
-use crate::pass::call_and_pass;
+use crate::pass::{cost, Cost};
 use reference::rcds::ACCEPTED;
 use std::hint::black_box;
 
@@ -15,13 +15,6 @@ extern "C" {
         ids: *mut u8,
         ids_len: usize,
     ) -> u64;
-}
-
-/// The time of one call in microseconds, and in FNV-1a passes over 64 KiB.
-#[derive(Clone, Copy)]
-pub struct Cost {
-    pub microseconds: f64,
-    pub passes: f64,
 }
 
 /// What one multiset cost.
@@ -79,17 +72,6 @@ fn call_order(pairs: &[u8], number: u64, ids: &mut [u8]) -> u64 {
 fn call_number(ids: &[u8]) -> u64 {
     // The slice is there in full.
     unsafe { rcds_trail_number(ids.as_ptr(), ids.len()) }
-}
-
-/// Times a call in turn with passes over 64 KiB; a short call is repeated.
-fn cost(mut call: impl FnMut()) -> Cost {
-    let once = seconds(1, &mut call);
-    let repetitions = (0.000_1 / once.max(1e-8)).clamp(1.0, 1_000.0) as usize;
-    let (call, pass) = call_and_pass(repetitions, &[7; 65_536], call);
-    Cost {
-        microseconds: call * 1e6,
-        passes: call / pass,
-    }
 }
 
 /// The cost of the order of a number.

@@ -1,12 +1,9 @@
 //! What is printed of the measures.
 
-use super::measure::{Cost, Row};
+use super::measure::Row;
 use super::typical::Typical;
+use crate::pass::{cells, Cost};
 use reference::rcds::ACCEPTED;
-
-fn cells(cost: &Cost) -> String {
-    format!("{:.1} | {:.3}", cost.microseconds, cost.passes)
-}
 
 /// A row for each multiset.
 pub fn print(rows: &[Row]) {

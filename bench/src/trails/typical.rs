@@ -1,6 +1,7 @@
 //! What the children of a tree's nodes cost: the orders that both ends really exchange.
 
-use super::measure::{bytes, number_cost, order_cost, Cost};
+use super::measure::{bytes, number_cost, order_cost};
+use crate::pass::Cost;
 use reference::rcds::ACCEPTED;
 use reference::settings::Settings;
 use reference::trail::{pairs, MOST_NUMBER};

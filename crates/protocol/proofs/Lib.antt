@@ -6,6 +6,7 @@ pub mod Members
 pub mod Blocks
 pub mod Pending
 pub mod References
+pub mod Referable
 pub mod Replies
 pub mod Matching
 pub mod Stages

@@ -21,6 +21,7 @@ use Rattle.tree.proofs.Tree.{each-at, nodes-within}
 use Rattle.tree.proofs.Listed.{node-listed, none-listed}
 use Rattle.shingle.specs.declared.Shingle.{Shingle}
 use Rattle.shingle.proofs.PairOrder.{and-true}
+use Rattle.shingle.proofs.Rising.{shingles-rise}
 use Rattle.sort.specs.Shell.{total}
 use Rattle.sketch.specs.Cells.{cellsOf}
 use Rattle.setup.specs.Tables.{shinglesOfString}
@@ -31,11 +32,12 @@ use Rattle.message.specs.Messages.{Msg, openingQuery, nodeQuery, opening, compo
 use Rattle.message.proofs.Messages.{parse-encode}
 use Rattle.protocol.specs.Lent.{Lent}
 use Rattle.protocol.specs.Nodes.{Entry, entryAt, inside, entriesFrom, entriesIn, blockIn, fromFirst}
-use Rattle.protocol.specs.Sender.{ruleNumber, childIds, composable, refsOf, nodeReply, openingReply, replyTo}
+use Rattle.protocol.specs.Sender.{ruleNumber, childIds, composable, refsOf, referable, nodeReply, openingReply, replyTo}
 use Rattle.protocol.specs.Genuine.{blocksOf, Accepted, childrenIds, firstOf, IsBlockReply, IsNodeReply, IsReply}
 use Rattle.protocol.specs.Demand.{SetupAccepts, leftBySetup, Announces}
 use Rattle.protocol.proofs.Memory.{made, nodes-is, accepted, cells-again, list-again}
 use Rattle.protocol.proofs.Cases.{same-message, no-message}
+use Rattle.protocol.proofs.Referable.{rising-referable}
 use Rattle.protocol.proofs.Valid.{valid-reply}
 
 -- A node as its entry.
@@ -244,9 +246,23 @@ module _ (σ : Settings) (string : List ℕ) (n l i : ℕ) where
         }
     block-reply false e = ap (literal n l i) (within .same)
 
+    few-ids : (a : List ℕ) → composable σ l a ≡ true → length a ≤ 32
+    unfolding composable
+    few-ids a e =
+        let some = and-true (ltb l (σ .levels)) _ e .1 in
+        let few = ltb-true (length a) 33 (and-true (ltb (length a) 33) _ (and-true (ltb 0 (length a)) _ some .1) .0) in
+        omega (arith, few)
+
+    few-referred : (composable σ l ids && referable list (l + 1) ids) ≡ composable σ l ids
+    few-referred = go (composable σ l ids) refl
+      where
+        go : (t : Bool) → composable σ l ids ≡ t → (t && referable list (l + 1) ids) ≡ t
+        go true e = rising-referable list (l + 1) ids (unfold shinglesOfString in shingles-rise _) (few-ids ids e)
+        go false e = refl
+
     first-reply : IsNodeReply σ string n l i (some (x .bytes)) (nodeReply σ string list n l i (map entryOf (x ∷ ns)))
     unfolding IsNodeReply nodeReply
-    first-reply = rw (sym (shallow-only ids (childrenIds σ l (x .bytes)) ids-are)) (block-reply (composable σ l ids) refl)
+    first-reply = rw (few-referred, sym (shallow-only ids (childrenIds σ l (x .bytes)) ids-are)) (block-reply (composable σ l ids) refl)
 
   nodes-reply : (ns : List Node) → Tidy σ ns → Each (λ x. Within string (x .start) (x .bytes)) ns
       → IsNodeReply σ string n l i (firstOf l i (map content ns)) (nodeReply σ string list n l i (map entryOf (fromNode l i ns)))

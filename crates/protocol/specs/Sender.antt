@@ -49,11 +49,15 @@ refsFrom i (s ∷ ss) l ids = refer i (howMany (pairOf s) (pairsAlong l 0 ids)) 
 unfoldable pub refsOf : List Shingle → ℕ → List ℕ → List Ref
 refsOf list l ids = refsFrom 0 list l ids
 
+-- There are at most 32 references. So it is with 32 children and a list that names no pair twice, as setup leaves it.
+unfoldable pub referable : List Shingle → ℕ → List ℕ → Bool
+referable list l ids = ltb (length (refsOf list l ids)) 33
+
 -- "None: type 6. At level L, or with a trail number above 4,095: type 5. Else type 4, referring to its list. Session is copied."
 unfoldable pub nodeReply : Settings → List ℕ → List Shingle → (session level id : ℕ) → List Entry → Msg
 nodeReply σ string list n l i [] = noNode n l i
 nodeReply σ string list n l i (e ∷ es) =
-    cond (composable σ l (childIds l es))
+    cond (composable σ l (childIds l es) && referable list (l + 1) (childIds l es))
     (composition n l i (trailNumber (childIds l es)) (refsOf list (l + 1) (childIds l es)))
     (literal n l i (blockIn string e))
 

@@ -4,7 +4,8 @@ mod ids;
 ghost use mathlib.Core.Path.{_≡_};
 ghost use Rattle.message.specs.Messages.{parse};
 ghost use Rattle.message.specs.Reading.{typeAnswer};
-ghost use Rattle.sender.specs.State.{SenderSetUp};
+ghost use Rattle.reply.specs.Reply.{Replied};
+ghost use Rattle.sender.specs.State.{settingsIn, SenderSetUp};
 ghost use Rattle.opening.specs.Opened.{Opened};
 ghost use Rattle.tree.specs.Table.{Tabled};
 ghost use Rattle.rcds.specs.Calls.{treeSettings, settingsOf};
@@ -117,6 +118,23 @@ pub extern "C" fn rcds_sender_setup(
         width,
     };
     sender::setup(settings, string, nodes, shingles, cells, state)
+}
+
+// Writes a sender's reply to a message. Asked are 1 to 7, 10, 11 and 20.
+#[no_mangle]
+pub extern "C" fn rcds_reply(
+    state: &[u8],
+    string: &[u8],
+    nodes: &[u8],
+    shingles: &[u8],
+    cells: &[u8],
+    message: &[u8],
+    out: &mut [u8],
+) -> u64
+    ensures { λ r. ⌜ Replied (settingsIn (now (state .entry))) (now (string .entry)) (now (nodes .entry)) (now (shingles .entry))
+        (now (cells .entry)) (now (message .entry)) (now (out .entry)) (now (out .exit)) r ⌝ }
+{
+    sender::reply(state, string, nodes, shingles, cells, message, out)
 }
 
 // Opens a sketch over the own shingle list. Asked are 3, 5, 7 of the three tables, and 14.

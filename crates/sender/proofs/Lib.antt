@@ -2,3 +2,4 @@
 pub mod Rows
 pub mod Outcome
 pub mod Accepted
+mod Replies

@@ -1,7 +1,8 @@
-// The sender's end: setting it up, and the settings that its state holds.
+// The sender's end: setting it up, the settings that its state holds, and its replies.
 mod state;
 
 ghost use mathlib.Core.Path.{_≡_};
+ghost use Rattle.reply.specs.Reply.{Replied};
 ghost use Rattle.sender.specs.State.{settingsIn, SenderSetUp};
 use tree::Settings;
 
@@ -45,4 +46,22 @@ pub fn settings_of(state: &[u8]) -> Settings
         nominal: rows::load(state, 3),
         width: rows::load(state, 4),
     }
+}
+
+// Replies to a message by the settings that the state holds. Asked are 1 to 7, 10, 11 and 20: the answer is the number of the first
+// that fails, and the buffer is then as it was; or 2^32 and the number of bytes written, and the bytes after them are untouched.
+pub fn reply(
+    state: &[u8],
+    string: &[u8],
+    nodes: &[u8],
+    shingles: &[u8],
+    cells: &[u8],
+    message: &[u8],
+    buffer: &mut [u8],
+) -> u64
+    ensures { λ r. ⌜ Replied (settingsIn (now (state .entry))) (now (string .entry)) (now (nodes .entry)) (now (shingles .entry))
+        (now (cells .entry)) (now (message .entry)) (now (buffer .entry)) (now (buffer .exit)) r ⌝ }
+{
+    let settings = settings_of(state);
+    reply::reply(settings, string, nodes, shingles, cells, message, buffer)
 }

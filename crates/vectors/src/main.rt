@@ -1,5 +1,5 @@
 // Runs FNV-1a's published vectors and some hundred strings through the proved code and prints what comes out. The stored
-// output is what tests/reference, written from the documents alone, prints; its program reference-vectors says the format.
+// output is what tests/reference prints; its program reference-vectors says the format.
 mod strings;
 
 use libc::STDOUT_FILENO;
@@ -118,10 +118,107 @@ fn refused_lines() {
     tree_line(2, 2, 1, 2, 0, 65537);
 }
 
+// Sets a sender up for the string. A line with the settings, the string's kind and length, the call's answer, and FNV-1a of each
+// table and of the state after it.
+fn filled_setup_line(
+    w: u64,
+    p: u64,
+    levels: u64,
+    nominal: u64,
+    width: u64,
+    kind: u64,
+    string: &[u8],
+) {
+    let mut nodes = [170u8; 65536];
+    let mut shingles = [170u8; 98304];
+    let mut cells = [170u8; 7680];
+    let mut state = [170u8; 48];
+    let answer = rcds::rcds_sender_setup(
+        w,
+        p,
+        levels,
+        nominal,
+        width,
+        string,
+        &mut nodes,
+        &mut shingles,
+        &mut cells,
+        &mut state,
+    );
+    io::write_all(STDOUT_FILENO, b"setup ");
+    print_number(w);
+    print_number(p);
+    print_number(levels);
+    print_number(nominal);
+    print_number(width);
+    print_number(kind);
+    print_number(string.len() as u64);
+    print_number(answer);
+    print_number(fnv::hash(&nodes));
+    print_number(fnv::hash(&shingles));
+    print_number(fnv::hash(&cells));
+    print_last(fnv::hash(&state));
+}
+
+// Fills the string and sets a sender up for it.
+fn string_setup_line(
+    w: u64,
+    p: u64,
+    levels: u64,
+    nominal: u64,
+    width: u64,
+    kind: u64,
+    string: &mut [u8],
+) {
+    strings::fill(kind, string);
+    filled_setup_line(w, p, levels, nominal, width, kind, string);
+}
+
+// The line of a setup for a string of n bytes, at most 65,537.
+fn setup_line(w: u64, p: u64, levels: u64, nominal: u64, width: u64, kind: u64, n: usize) {
+    let mut string = [0u8; 65537];
+    if n <= 65537 {
+        string_setup_line(w, p, levels, nominal, width, kind, &mut string[..n]);
+    }
+}
+
+fn setup_kind_lines(w: u64, p: u64, levels: u64, nominal: u64, width: u64, n: usize) {
+    setup_line(w, p, levels, nominal, width, 0, n);
+    setup_line(w, p, levels, nominal, width, 2, n);
+    setup_line(w, p, levels, nominal, width, 4, n);
+    setup_line(w, p, levels, nominal, width, 5, n);
+}
+
+fn setup_settings_lines(w: u64, p: u64, levels: u64, nominal: u64, width: u64) {
+    setup_kind_lines(w, p, levels, nominal, width, 0);
+    setup_kind_lines(w, p, levels, nominal, width, 6);
+    setup_kind_lines(w, p, levels, nominal, width, 100);
+    setup_kind_lines(w, p, levels, nominal, width, 4527);
+    setup_kind_lines(w, p, levels, nominal, width, 20000);
+}
+
+fn setup_lines() {
+    setup_settings_lines(2, 2, 1, 2, 64);
+    setup_settings_lines(2, 2, 4, 16, 1);
+    setup_settings_lines(4, 4, 3, 4096, 17);
+    setup_settings_lines(12, 8, 4, 16384, 33);
+    setup_settings_lines(2, 8, 4, 4096, 63);
+}
+
+fn refused_setup_lines() {
+    setup_line(2, 2, 1, 2, 0, 2, 100);
+    setup_line(2, 2, 1, 2, 65, 2, 100);
+    setup_line(2, 2, 1, 1, 65, 2, 100);
+    setup_line(2, 2, 1, 2, 64, 0, 65537);
+    setup_line(2, 2, 1, 2, 65, 0, 65537);
+}
+
 fn main() {
     published_lines();
     single_byte_lines();
     zero_hash_lines();
     tree_lines();
     refused_lines();
+    setup_lines();
+    refused_setup_lines();
 }

@@ -4,9 +4,13 @@
 //! The functions are arguments, so that the comparison itself is tested on functions that are
 //! wrong on purpose. One module for each group of calls.
 
+pub mod content;
 pub mod failure;
 pub mod lent;
 pub mod messages;
+pub mod openings;
 pub mod random;
+pub mod settings;
+pub mod setups;
 pub mod trails;
 pub mod tree;

@@ -2,9 +2,9 @@
 //!
 //!     conformance [GROUP...] [SEED [CASE]]
 //!
-//! The groups are `tree`, `trails` and `messages`; none stands for all that are built in. Without a
-//! case it runs all of them and prints a line for each call; it stops at the first that differs.
-//! With a case, and then with one group, it runs that case alone.
+//! The groups are `tree`, `trails`, `messages`, `setups` and `openings`; none stands for all that are
+//! built in. Without a case it runs all of them and prints a line for each call; it stops at the first
+//! that differs. With a case, and then with one group, it runs that case alone.
 //!
 //! A group is built in by the feature of its name. All are, unless cargo is told otherwise.
 
@@ -23,6 +23,10 @@ const GROUPS: &[(&str, Run)] = &[
     ("trails", trails::run),
     #[cfg(feature = "messages")]
     ("messages", messages::run),
+    #[cfg(feature = "setups")]
+    ("setups", setups::run),
+    #[cfg(feature = "openings")]
+    ("openings", openings::run),
 ];
 
 #[cfg(feature = "tree")]
@@ -93,6 +97,65 @@ mod messages {
         match case {
             None => run_all(seed, rcds_message_type),
             Some(number) => run_one(seed, number, rcds_message_type),
+        }
+    }
+}
+
+#[cfg(feature = "setups")]
+mod setups {
+    use conformance::failure::Failure;
+    use conformance::setups::{run_all, run_one};
+
+    extern "C" {
+        fn rcds_sender_setup(
+            w: u64,
+            p: u64,
+            levels: u64,
+            nominal: u64,
+            width: u64,
+            string: *const u8,
+            string_len: usize,
+            nodes: *mut u8,
+            nodes_len: usize,
+            shingles: *mut u8,
+            shingles_len: usize,
+            cells: *mut u8,
+            cells_len: usize,
+            state: *mut u8,
+            state_len: usize,
+        ) -> u64;
+    }
+
+    pub fn run(seed: u64, case: Option<usize>) -> Result<Vec<String>, Failure> {
+        match case {
+            None => run_all(seed, rcds_sender_setup),
+            Some(number) => run_one(seed, number, rcds_sender_setup),
+        }
+    }
+}
+
+#[cfg(feature = "openings")]
+mod openings {
+    use conformance::failure::Failure;
+    use conformance::openings::{run_all, run_one};
+
+    extern "C" {
+        fn rcds_sketch_open(
+            levels: u64,
+            width: u64,
+            theirs: *const u8,
+            theirs_len: usize,
+            own: *const u8,
+            own_len: usize,
+            shingles: *mut u8,
+            shingles_len: usize,
+        ) -> u64;
+    }
+
+    pub fn run(seed: u64, case: Option<usize>) -> Result<Vec<String>, Failure> {
+        match case {
+            None => run_all(seed, rcds_sketch_open),
+            Some(number) => run_one(seed, number, rcds_sketch_open),
         }
     }
 }

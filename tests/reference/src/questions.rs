@@ -1,6 +1,8 @@
 //! The questions that a setup asks. A function answers `true` for a yes.
 
+use crate::opening::MOST_SHINGLES;
 use crate::settings::Settings;
+use crate::{cell_table, node_table, sender, shingle_table};
 
 /// The bytes of a string that question 6 allows.
 pub const MOST_BYTES: usize = 65_536;
@@ -19,14 +21,19 @@ pub fn fan_out_allowed(settings: &Settings) -> bool {
 }
 
 /// "3 L 1 to 4?"
-pub fn levels_allowed(settings: &Settings) -> bool {
-    (1..=4).contains(&settings.levels)
+pub fn levels_allowed(levels: u64) -> bool {
+    (1..=4).contains(&levels)
 }
 
 /// "4 M from p^L to 65,536?" Asked after 2 and 3 had a yes, so that the power is small.
 pub fn nominal_allowed(settings: &Settings) -> bool {
     let least = settings.fan_out.pow(settings.levels as u32);
     (least..=65_536).contains(&settings.nominal)
+}
+
+/// "5 q 1 to 64?"
+pub fn width_allowed(width: u64) -> bool {
+    (1..=64).contains(&width)
 }
 
 /// "6 string at most 65,536 bytes?"
@@ -36,7 +43,22 @@ pub fn string_allowed(string: &[u8]) -> bool {
 
 /// "7 lent tables long enough for 4,096 nodes ...?", asked of the node table.
 pub fn node_table_allowed(table: &[u8]) -> bool {
-    table.len() >= MOST_NODES * crate::node_table::ENTRY_BYTES
+    table.len() >= MOST_NODES * node_table::ENTRY_BYTES
+}
+
+/// The same, asked of the shingle table: "4,096 shingles".
+pub fn shingle_table_allowed(table: &[u8]) -> bool {
+    table.len() >= MOST_SHINGLES * shingle_table::ENTRY_BYTES
+}
+
+/// The same, asked of a cell table: "3q cells". Asked after 5 had a yes, so that the product is small.
+pub fn cell_table_allowed(table: &[u8], width: u64) -> bool {
+    table.len() >= 3 * width as usize * cell_table::CELL_BYTES
+}
+
+/// The same, asked of the state, which is lent with the tables.
+pub fn state_allowed(state: &[u8]) -> bool {
+    state.len() >= sender::STATE_BYTES
 }
 
 /// "8 at most 4,096 nodes?"

@@ -4,11 +4,14 @@
 //! or another small number.
 
 use crate::message::parse;
-use crate::node_table;
+use crate::opening::open;
 use crate::questions;
 use crate::settings::Settings;
+use crate::shingle::shingles;
+use crate::sketch::sketch;
 use crate::trail::{number_of_order, order_of_number, Pair, MOST_IDS};
 use crate::tree::tree;
+use crate::{cell_table, node_table, sender, shingle_table};
 
 /// From this number on an answer says "accepted".
 pub const ACCEPTED: u64 = 1 << 32;
@@ -23,7 +26,7 @@ pub fn rcds_tree(settings: &Settings, string: &[u8], table: &mut [u8]) -> u64 {
     if !questions::fan_out_allowed(settings) {
         return 2;
     }
-    if !questions::levels_allowed(settings) {
+    if !questions::levels_allowed(settings.levels) {
         return 3;
     }
     if !questions::nominal_allowed(settings) {
@@ -94,5 +97,102 @@ pub fn rcds_message_type(message: &[u8]) -> u64 {
     match parse(message) {
         Some(message) => ACCEPTED + u64::from(message.body.message_type()),
         None => 10,
+    }
+}
+
+/// `rcds_sender_setup`: the tree of `string` and its shingles and cells into the three tables, and
+/// the settings into the state. Asks 1 to 8, in this order.
+///
+/// "A no at 1 to 7 leaves tables unchanged; at 8 they are all zero. No state is made. After a yes,
+/// entries past the last used are zero."
+pub fn rcds_sender_setup(
+    settings: &Settings,
+    width: u64,
+    string: &[u8],
+    nodes: &mut [u8],
+    shingle_list: &mut [u8],
+    cells: &mut [u8],
+    state: &mut [u8],
+) -> u64 {
+    if !questions::window_allowed(settings) {
+        return 1;
+    }
+    if !questions::fan_out_allowed(settings) {
+        return 2;
+    }
+    if !questions::levels_allowed(settings.levels) {
+        return 3;
+    }
+    if !questions::nominal_allowed(settings) {
+        return 4;
+    }
+    if !questions::width_allowed(width) {
+        return 5;
+    }
+    if !questions::string_allowed(string) {
+        return 6;
+    }
+    if !(questions::node_table_allowed(nodes)
+        && questions::shingle_table_allowed(shingle_list)
+        && questions::cell_table_allowed(cells, width)
+        && questions::state_allowed(state))
+    {
+        return 7;
+    }
+    let tree = tree(settings, string);
+    if !questions::nodes_allowed(&tree) {
+        nodes.fill(0);
+        shingle_list.fill(0);
+        cells.fill(0);
+        return 8;
+    }
+    let list = shingles(&tree);
+    node_table::write(&tree, nodes);
+    shingle_table::write(&list, shingle_list);
+    cell_table::write(&sketch(&list, width), cells);
+    sender::write(settings, width, state);
+    ACCEPTED + tree.len() as u64
+}
+
+/// `rcds_sketch_open`: the sender's cells against the own ones, and the new list into the shingle
+/// table. Asks 3, 5, 7 and 14, in this order. A no changes nothing.
+///
+/// "An accepted opening leaves the new list in the shingle table, zero past its end."
+pub fn rcds_sketch_open(
+    levels: u64,
+    width: u64,
+    theirs: &[u8],
+    own: &[u8],
+    shingle_list: &mut [u8],
+) -> u64 {
+    if !questions::levels_allowed(levels) {
+        return 3;
+    }
+    if !questions::width_allowed(width) {
+        return 5;
+    }
+    if !(questions::cell_table_allowed(theirs, width)
+        && questions::cell_table_allowed(own, width)
+        && questions::shingle_table_allowed(shingle_list))
+    {
+        return 7;
+    }
+    let (theirs, own) = (
+        cell_table::read(theirs, width),
+        cell_table::read(own, width),
+    );
+    let opened = open(
+        levels,
+        width,
+        &theirs,
+        &own,
+        &shingle_table::read(shingle_list),
+    );
+    match opened {
+        Ok(list) => {
+            shingle_table::write(&list, shingle_list);
+            ACCEPTED + list.len() as u64
+        }
+        Err(_) => 14,
     }
 }

@@ -2,7 +2,7 @@
 //! The head of `bin/reference-vectors.rs` says the format.
 
 use crate::fnv::{block_id, fnv1a};
-use crate::rcds::rcds_tree;
+use crate::rcds::{rcds_sender_setup, rcds_tree};
 use crate::settings::Settings;
 
 /// Published inputs of FNV-1a.
@@ -45,7 +45,29 @@ pub const REFUSED: [[u64; 6]; 10] = [
     [2, 2, 1, 2, 0, 65_537],
 ];
 
-/// The bytes of the node table before each call.
+/// w, p, L, M, q of the settings with which senders are set up.
+pub const SETUPS: [[u64; 5]; 5] = [
+    [2, 2, 1, 2, 64],
+    [2, 2, 4, 16, 1],
+    [4, 4, 3, 4_096, 17],
+    [12, 8, 4, 16_384, 33],
+    [2, 8, 4, 4_096, 63],
+];
+
+/// The lengths and the kinds of the strings that they are set up for.
+pub const SETUP_LENGTHS: [usize; 5] = [0, 6, 100, 4_527, 20_000];
+pub const SETUP_KINDS: [u64; 4] = [0, 2, 4, 5];
+
+/// w, p, L, M, q, kind, length of the setups that are refused before a string is cut.
+pub const REFUSED_SETUPS: [[u64; 7]; 5] = [
+    [2, 2, 1, 2, 0, 2, 100],
+    [2, 2, 1, 2, 65, 2, 100],
+    [2, 2, 1, 1, 65, 2, 100],
+    [2, 2, 1, 2, 64, 0, 65_537],
+    [2, 2, 1, 2, 65, 0, 65_537],
+];
+
+/// The bytes of the tables and of the state before each call.
 pub const BEFORE: u8 = 170;
 
 /// One step of the linear congruential generator modulo 2^64.
@@ -135,6 +157,52 @@ pub fn tree_lines() -> Vec<String> {
     }
     for [w, p, levels, nominal, kind, length] in REFUSED {
         lines.push(tree_line([w, p, levels, nominal], kind, length as usize));
+    }
+    lines
+}
+
+/// The line of one setup.
+fn setup_line(settings: [u64; 5], kind: u64, length: usize) -> String {
+    let [w, p, levels, nominal, width] = settings;
+    let settings = Settings {
+        window: w,
+        fan_out: p,
+        levels,
+        nominal,
+    };
+    let [mut nodes, mut list, mut cells, mut state] =
+        [65_536, 98_304, 7_680, 48].map(|length| vec![BEFORE; length]);
+    let answer = rcds_sender_setup(
+        &settings,
+        width,
+        &string(kind, length),
+        &mut nodes,
+        &mut list,
+        &mut cells,
+        &mut state,
+    );
+    let [nodes, list, cells, state] = [nodes, list, cells, state].map(|bytes| fnv1a(&bytes));
+    format!(
+        "setup {w} {p} {levels} {nominal} {width} {kind} {length} {answer} {nodes} {list} {cells} {state}"
+    )
+}
+
+/// The lines of all setups.
+pub fn setup_lines() -> Vec<String> {
+    let mut lines = Vec::new();
+    for settings in SETUPS {
+        for length in SETUP_LENGTHS {
+            for kind in SETUP_KINDS {
+                lines.push(setup_line(settings, kind, length));
+            }
+        }
+    }
+    for [w, p, levels, nominal, width, kind, length] in REFUSED_SETUPS {
+        lines.push(setup_line(
+            [w, p, levels, nominal, width],
+            kind,
+            length as usize,
+        ));
     }
     lines
 }

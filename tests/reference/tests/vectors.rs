@@ -1,6 +1,6 @@
 //! The strings and lines that the program `vectors` is compared with.
 
-use reference::vectors::{fnv_lines, string, tree_lines};
+use reference::vectors::{fnv_lines, setup_lines, string, tree_lines};
 
 #[test]
 fn strings_of_each_kind() {
@@ -29,4 +29,17 @@ fn lines_as_the_format_counts_them() {
             "{question} refuses no line"
         );
     }
+}
+
+#[test]
+fn lines_of_setups() {
+    let lines = setup_lines();
+    assert_eq!(lines.len(), 105);
+    let answers = |question: u64| {
+        let of = |line: &&String| line.split(' ').nth(8) == Some(&question.to_string());
+        lines.iter().filter(of).count()
+    };
+    assert_eq!((answers(4), answers(5), answers(6)), (1, 3, 1));
+    assert!(answers(8) > 0, "8 refuses no line");
+    assert_eq!(answers((1 << 32) + 4_096), 1);
 }

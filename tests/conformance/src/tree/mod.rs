@@ -2,7 +2,6 @@
 
 mod cases;
 mod compare;
-mod content;
 mod report;
 
 #[cfg(test)]

@@ -2,7 +2,7 @@
 
 use super::cases::{case, Case};
 use super::compare::{compare, Tree};
-use super::content::KINDS;
+use crate::content::KINDS;
 use crate::failure::Failure;
 use reference::rcds::ACCEPTED;
 use std::collections::BTreeMap;

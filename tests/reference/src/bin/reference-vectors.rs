@@ -16,6 +16,14 @@
 //!    - Then ten lines that are refused: kind 2 length 100 with the settings 1 2 1 2, 13 2 1 2,
 //!      2 1 1 2, 2 9 1 9, 2 2 0 2, 2 2 5 32, 2 2 1 1, 2 2 4 15, 2 2 1 65537; and kind 0 length
 //!      65537 with the settings 2 2 1 2.
+//! 4. `setup W P L M Q KIND LENGTH ANSWER NODES SHINGLES CELLS STATE`, 105 lines. ANSWER is the
+//!    answer of `rcds_sender_setup` with these settings over such a string, tables of 65,536, 98,304
+//!    and 7,680 bytes and a state of 48 bytes that are all 170 before the call. The other four are
+//!    FNV-1a of each of them after it.
+//!    - For each of the settings 2 2 1 2 64, 2 2 4 16 1, 4 4 3 4096 17, 12 8 4 16384 33, 2 8 4 4096
+//!      63: for each length of 0, 6, 100, 4527, 20000, for each kind of 0, 2, 4, 5, a line.
+//!    - Then five lines that are refused: kind 2 length 100 with the settings 2 2 1 2 0, 2 2 1 2 65,
+//!      2 2 1 1 65; kind 0 length 65537 with the settings 2 2 1 2 64, 2 2 1 2 65.
 //!
 //! Strings. The random bytes of a string: x starts at 8 × length + kind; for each byte first
 //! x = (x × 6364136223846793005 + 1442695040888963407) mod 2^64, then the byte is x / 2^56.
@@ -27,10 +35,11 @@
 //!   256, where t = k mod 1000 and v = 8 × t if t < 500, else 8 × (1000 − t).
 //! - Kind 5: the first 37 random bytes, over and over: byte i is byte i − 37 from 37 on.
 
-use reference::vectors::{fnv_lines, tree_lines};
+use reference::vectors::{fnv_lines, setup_lines, tree_lines};
 
 fn main() {
-    for line in fnv_lines().into_iter().chain(tree_lines()) {
+    let lines = fnv_lines().into_iter().chain(tree_lines());
+    for line in lines.chain(setup_lines()) {
         println!("{line}");
     }
 }

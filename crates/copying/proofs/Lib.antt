@@ -1,0 +1,4 @@
+-- Laws of copying.
+pub mod Finding
+pub mod Appending
+pub mod Settling

@@ -1,0 +1,2 @@
+-- What copying promises.
+pub mod Copying

@@ -1,0 +1,6 @@
+-- The laws behind the replies.
+mod Searching
+mod Collecting
+mod Referring
+mod Composed
+mod Replying

@@ -1,0 +1,64 @@
+-- Each way out is a case of the definition: the laws of `Replying`.
+use borrow.Author.Needs.{needs}
+use Rattle.reply.proofs.Replying.{none-written, composition-written, literal-written}
+use Rattle.reply.proofs.node.node_reply.Statement.{statement}
+use Rattle.reply.proofs.node.node_reply.Tie as tie
+
+find-requires : tie.Need-find-requires
+find-requires c κs = search needs
+
+write-none-requires : tie.Need-write-none-requires
+write-none-requires c κs = search needs
+
+same-length : tie.Need-same-length
+same-length c = search needs
+
+returns : tie.Need-returns
+returns c =
+    let written = c .before .before in
+    let none = written .before .before in
+    none-written _ _ _ _ _ _ _ _ (none .before .find .ensures) (none .if1 .taken) (written .write-none .ensures)
+
+compose-requires : tie.Need-compose-requires
+compose-requires c κs = search needs
+
+same-length-2 : tie.Need-same-length-2
+same-length-2 c = search needs
+
+returns-2 : tie.Need-returns-2
+returns-2 c =
+    let composed = c .before .before .before in
+    let found = composed .before .before in
+    composition-written _ _ _ _ _ _ _ _ (found .before .find .ensures) (found .if1 .left) (composed .compose .ensures) (c .if2 .taken)
+
+write-bytes-requires : tie.Need-write-bytes-requires
+write-bytes-requires c κs =
+    let found = c .before .before .before .before .before .before in
+    found .before .find .ensures .in-string (found .if1 .left)
+
+same-length-3 : tie.Need-same-length-3
+same-length-3 c = search needs
+
+returns-3 : tie.Need-returns-3
+returns-3 c =
+    let written = c .before .before in
+    let none = written .before .before in
+    let composed = none .before .before .before in
+    let found = composed .before .before in
+    literal-written _ _ _ _ _ _ _ _ (found .before .find .ensures) (found .if1 .left) (composed .compose .ensures) (none .if2 .left)
+    (written .write-bytes .ensures)
+
+pub node-reply-spec : {M : Type 1} → statement M
+node-reply-spec =
+    tie.close
+    (tie.spec
+    find-requires
+    write-none-requires
+    same-length
+    returns
+    compose-requires
+    same-length-2
+    returns-2
+    write-bytes-requires
+    same-length-3
+    returns-3)

@@ -1,0 +1,98 @@
+-- What the parts of replying promise each other. No public contract cites these.
+use mathlib.Core.Bool.{Bool, true, false, cond, _&&_}
+use mathlib.Core.List.{List, [], _∷_}
+use mathlib.Core.Path.{_≡_}
+use Prim.Native.Nat.{ℕ, _+_, _-_, _/_, _≤_, _<_}
+use lib.Dec.{leb, ltb, eqb}
+use lib.ListN.{length, take}
+use Rattle.tree.specs.declared.Settings.{Settings}
+use Rattle.tree.specs.Table.{idAt, levelAt}
+use Rattle.shingle.specs.Table.{shinglesIn}
+use Rattle.trail.specs.Trails.{trailNumber}
+use Rattle.trail.specs.Calls.{nonzero}
+use Rattle.message.specs.Words.{Ref}
+use Rattle.message.specs.Messages.{Msg, composition, encode}
+use Rattle.message.specs.declared.Message.{Message}
+use Rattle.message.specs.declared.Message.the-variants.{Bad, OpeningQuery, NodeQuery, Opening, Composition, Literal, NoNode}
+use Rattle.message_writer.specs.Writing.{Written, paired}
+use Rattle.protocol.specs.Lent.{lent}
+use Rattle.protocol.specs.Nodes.{Entry, entryAt, inside, entriesFrom, entriesIn, fromFirst}
+use Rattle.protocol.specs.Sender.{childIds, composable, refsOf, referable, nodeReply, openingReply}
+use Rattle.reply.specs.declared.query.Query.{Query}
+
+-- What a message that was read asks: 1 for the opening, 2 for a node; else the number of the question that refuses it.
+abbrev pub query : ℕ → ℕ → ℕ → ℕ → Query
+query kind session level id = record { kind = kind; session = session; level = level; id = id }
+
+abbrev pub queryOf : Message → Query
+queryOf Bad = query 10 0 0 0
+queryOf (OpeningQuery n) = query 1 n 0 0
+queryOf (NodeQuery n l i) = query 2 n l i
+queryOf (Opening n rule w p L M q len root at) = query 11 0 0 0
+queryOf (Composition n l i x at count) = query 11 0 0 0
+queryOf (Literal n l i at count) = query 11 0 0 0
+queryOf (NoNode n l i) = query 11 0 0 0
+
+-- The entry has that level and id.
+abbrev pub asked : ℕ → ℕ → Entry → Bool
+asked l i e = eqb (e .level) l && eqb (e .id) i
+
+-- Entry k lies in a string of n bytes and has that level and id.
+unfoldable pub matchAt : List ℕ → (n l i k : ℕ) → Bool
+matchAt nodes n l i k = inside n (entryAt nodes k) && asked l i (entryAt nodes k)
+
+-- Entry k is the first of that level and id in a string of n bytes; or there is none, and the table has no entry k.
+pub record Found (nodes : List ℕ) (n l i k : ℕ) : Type 0 where
+  pub here : k < length nodes / 16
+      → fromFirst (asked l i) (entriesIn nodes n) ≡ entryAt nodes k ∷ entriesFrom nodes n (length nodes / 16 - (k + 1)) (k + 1)
+  pub in-string : k < length nodes / 16 → inside n (entryAt nodes k) ≡ true
+  pub none : length nodes / 16 ≤ k → fromFirst (asked l i) (entriesIn nodes n) ≡ []
+
+-- What entry k is to a node of level l before it: 0 the end of its descendants, 1 passed over, 2 a child.
+unfoldable pub roleAt : List ℕ → (n l k : ℕ) → ℕ
+roleAt nodes n l k =
+    cond (eqb (idAt nodes k) 0) 0
+    (cond (inside n (entryAt nodes k)) (cond (leb (levelAt nodes k) l) 0 (cond (eqb (levelAt nodes k) (l + 1)) 2 1)) 1)
+
+-- All of these ids, if there are at most 32; else a count above 32.
+pub record Collected (all : List ℕ) (count : ℕ) (ids : List ℕ) : Type 0 where
+  pub room : length ids ≡ 32
+  pub few : count ≤ 32 → take count ids ≡ all
+  pub many : 32 < count → 32 < length all
+
+-- All of these references, if there are at most 32; else a count above 32.
+pub record Referred (all : List Ref) (count : ℕ) (indexes counts : List ℕ) : Type 0 where
+  pub indexes-room : length indexes ≡ 32
+  pub counts-room : length counts ≡ 32
+  pub few : count ≤ 32 → paired (take count indexes) (take count counts) ≡ all
+  pub many : 32 < count → 32 < length all
+
+-- The order has a number of at most 4,095.
+unfoldable pub numbered : List ℕ → Bool
+numbered ids = ltb 0 (length ids) && (ltb (length ids) 33 && (nonzero ids && ltb (trailNumber ids) 4096))
+
+-- A message written if it can be; else 0, and the buffer as it was.
+pub record Attempted (possible : Bool) (before after : List ℕ) (m : Msg) (r : ℕ) : Type 0 where
+  pub yes : possible ≡ true → Written before after (encode m) r
+  pub no : possible ≡ false → (r ≡ 0) × (after ≡ before)
+
+-- The composition of children with these ids, of a node of level l.
+unfoldable pub compositionOf : List ℕ → (session l i : ℕ) → List ℕ → Msg
+compositionOf shingles n l i ids = composition n l i (trailNumber ids) (refsOf (shinglesIn shingles) (l + 1) ids)
+
+-- The ids of the children of the node of entry k, which has level l.
+unfoldable pub idsBelow : List ℕ → (n l k : ℕ) → List ℕ
+idsBelow nodes n l k = childIds l (entriesFrom nodes n (length nodes / 16 - (k + 1)) (k + 1))
+
+-- The composition of the node of entry k.
+abbrev pub Composing : Settings → ℕ → (nodes shingles : List ℕ) → (session l i k : ℕ) → (before after : List ℕ) → ℕ → Type 0
+Composing σ n nodes shingles session l i k before after r =
+    Attempted (composable σ l (idsBelow nodes n l k) && referable (shinglesIn shingles) (l + 1) (idsBelow nodes n l k)) before after
+    (compositionOf shingles session l i (idsBelow nodes n l k)) r
+
+-- The opening, and the reply to a node query.
+unfoldable pub openingOf : Settings → (string nodes cells : List ℕ) → ℕ → Msg
+openingOf σ string nodes cells n = openingReply σ (lent string nodes [] cells []) n
+
+unfoldable pub nodeReplyOf : Settings → (string nodes shingles : List ℕ) → (session l i : ℕ) → Msg
+nodeReplyOf σ string nodes shingles n l i = nodeReply σ string (shinglesIn shingles) n l i (fromFirst (asked l i) (entriesIn nodes (length string)))

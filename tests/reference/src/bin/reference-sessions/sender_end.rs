@@ -1,0 +1,139 @@
+//! A sender with its memory, whose replies are looked at as they are written.
+
+use crate::counts::{Claim, Counts};
+use crate::random::Random;
+use reference::lent::Lent;
+use reference::message::{encode, parse, Body};
+use reference::rcds::ACCEPTED;
+use reference::reply::reply;
+use reference::settings::Settings;
+use std::collections::HashMap;
+
+/// More than any reply has.
+pub const REPLY_BYTES: usize = 100_000;
+
+/// Memory for a string and its tables, long enough or longer, with anything in it.
+pub fn memory(string: &[u8], width: u64, random: &mut Random) -> Lent {
+    let content = random.number() as u8;
+    let more = random.one_of(&[0, 0, 0, 1, 24, 1_000]);
+    Lent {
+        string: string.to_vec(),
+        nodes: vec![content; 4_096 * 16 + more],
+        shingles: vec![content; 4_096 * 24 + more],
+        cells: vec![content; 3 * width as usize * 40 + more],
+    }
+}
+
+/// The reply to a message in a buffer of so many bytes, if there is one.
+pub fn looked_at_reply(
+    (settings, width): (&Settings, u64),
+    lent: &Lent,
+    message: &[u8],
+    buffer_bytes: usize,
+    counts: &mut Counts,
+) -> Option<Vec<u8>> {
+    const BEFORE: u8 = 0xa5;
+    let mut buffer = vec![BEFORE; buffer_bytes];
+    let answer = reply(settings, width, lent, message, &mut buffer);
+    let case = || format!("answer {answer} to {message:02x?}");
+    if answer < ACCEPTED {
+        *counts.replies_refused.entry(answer).or_default() += 1;
+        let own = matches!(answer, 1..=7 | 10 | 11 | 20);
+        let unchanged = buffer.iter().all(|&byte| byte == BEFORE);
+        counts.claim(Claim::OwnQuestions, own, case);
+        counts.claim(Claim::NoChangesNothing, unchanged, case);
+        return None;
+    }
+    let written = buffer[..(answer - ACCEPTED) as usize].to_vec();
+    let rest = &buffer[written.len()..];
+    let right = is_reply(message, &written) && rest.iter().all(|&byte| byte == BEFORE);
+    counts.claim(Claim::Replies, right, case);
+    Some(written)
+}
+
+/// "To type 1 the sender replies type 3", to type 2 one of types 4 to 6 with its level and id, and
+/// "Session is copied."
+pub fn is_reply(query: &[u8], reply: &[u8]) -> bool {
+    let (Some(query), Some(reply)) = (parse(query), parse(reply)) else {
+        return false;
+    };
+    let asked = match reply.body {
+        Body::Opening(_) => Body::OpeningQuery,
+        Body::Composition { level, id, .. }
+        | Body::Literal { level, id, .. }
+        | Body::None { level, id } => Body::NodeQuery { level, id },
+        _ => return false,
+    };
+    (query.session, query.body) == (reply.session, asked)
+}
+
+/// A sender after an accepted setup.
+pub struct SenderEnd {
+    pub settings: Settings,
+    pub width: u64,
+    pub lent: Lent,
+    written: HashMap<Vec<u8>, Vec<u8>>,
+}
+
+impl SenderEnd {
+    /// The setup, or the question that has a no.
+    pub fn set_up(
+        settings: &Settings,
+        width: u64,
+        string: &[u8],
+        random: &mut Random,
+    ) -> Result<SenderEnd, u64> {
+        let mut lent = memory(string, width, random);
+        let answer = lent.set_up(settings, width);
+        if answer < ACCEPTED {
+            return Err(answer);
+        }
+        Ok(SenderEnd {
+            settings: *settings,
+            width,
+            lent,
+            written: HashMap::new(),
+        })
+    }
+
+    /// The genuine reply to a query. It depends on nothing else, so it is worked out once.
+    pub fn reply(&mut self, query: &[u8], counts: &mut Counts) -> Vec<u8> {
+        if let Some(reply) = self.written.get(query) {
+            return reply.clone();
+        }
+        let ends = (&self.settings, self.width);
+        let reply = looked_at_reply(ends, &self.lent, query, REPLY_BYTES, counts)
+            .expect("a query has a reply");
+        self.written.insert(query.to_vec(), reply.clone());
+        reply
+    }
+}
+
+/// A message with its references put in this order.
+fn with_references(
+    message: &[u8],
+    order: impl FnOnce(&mut Vec<reference::word::Reference>),
+) -> Vec<u8> {
+    let mut parsed = parse(message).expect("the message is well formed");
+    let Body::Composition { references, .. } = &mut parsed.body else {
+        return message.to_vec();
+    };
+    order(references);
+    encode(&parsed)
+}
+
+/// "references in any order": another sender may write them so.
+pub fn shuffled(message: &[u8], random: &mut Random) -> Vec<u8> {
+    with_references(message, |references| {
+        for last in (1..references.len()).rev() {
+            references.swap(last, random.place(last + 1));
+        }
+    })
+}
+
+/// The same message but for the order of its references.
+pub fn same_reply(one: &[u8], other: &[u8]) -> bool {
+    let sorted =
+        |message: &[u8]| with_references(message, |references| references.sort_by_key(|r| r.index));
+    one.len() == other.len() && (one == other || sorted(one) == sorted(other))
+}

@@ -1,0 +1,483 @@
+//! Both ends, question by question, over strings that can be followed by hand.
+
+use reference::fnv::block_id;
+use reference::lent::Lent;
+use reference::message::{encode, parse, Body, Message, Opening};
+use reference::rcds::ACCEPTED;
+use reference::receiver::{
+    outstanding, running, set_up, take, write_query, Answer, Pending, Receiver, Stage,
+};
+use reference::reply::reply;
+use reference::settings::Settings;
+use reference::word::Reference;
+
+/// "With w=2, p=2, L=1, M=2"
+const SMALLEST: Settings = Settings {
+    window: 2,
+    fan_out: 2,
+    levels: 1,
+    nominal: 2,
+};
+
+const WIDTH: u64 = 64;
+
+/// Two blocks: the first two bytes, and the other four.
+const SIX: [u8; 6] = [0x00, 0x03, 0x00, 0x00, 0x01, 0x00];
+
+fn memory(string: &[u8]) -> Lent {
+    Lent {
+        string: string.to_vec(),
+        nodes: vec![170; 65_536],
+        shingles: vec![170; 98_304],
+        cells: vec![170; 7_680],
+    }
+}
+
+fn sender(string: &[u8]) -> Lent {
+    let mut lent = memory(string);
+    assert!(lent.set_up(&SMALLEST, WIDTH) > ACCEPTED);
+    lent
+}
+
+fn receiver(string: &[u8], session: u64) -> (Receiver, Lent) {
+    let mut lent = memory(string);
+    let state = set_up(&SMALLEST, WIDTH, session, &mut lent);
+    (state.expect("the setup is accepted"), lent)
+}
+
+fn message(body: Body) -> Vec<u8> {
+    encode(&Message { session: 5, body })
+}
+
+fn query(level: u32, id: u64) -> Vec<u8> {
+    message(Body::NodeQuery { level, id })
+}
+
+fn literal(level: u32, id: u64, bytes: &[u8]) -> Vec<u8> {
+    let bytes = bytes.to_vec();
+    message(Body::Literal { level, id, bytes })
+}
+
+fn composition(id: u64, number: u32, references: &[(u32, u32)]) -> Vec<u8> {
+    let reference = |&(index, count)| Reference { index, count };
+    message(Body::Composition {
+        level: 0,
+        id,
+        number,
+        references: references.iter().map(reference).collect(),
+    })
+}
+
+/// What the sender of a string replies, as a message.
+fn replied(lent: &Lent, query: &[u8]) -> Vec<u8> {
+    let mut buffer = vec![170; 100_000];
+    let answer = reply(&SMALLEST, WIDTH, lent, query, &mut buffer);
+    assert!(answer > ACCEPTED, "refused by {answer}");
+    let length = (answer - ACCEPTED) as usize;
+    assert!(buffer[length..].iter().all(|&byte| byte == 170));
+    buffer.truncate(length);
+    buffer
+}
+
+/// A receiver of session 5 with own bytes ff ff ff that has taken the opening of the six bytes, and
+/// six bytes of output and two more.
+fn opened() -> (Receiver, Lent, Vec<u8>) {
+    let (mut state, mut lent) = receiver(&[0xff; 3], 5);
+    let mut output = vec![9; 8];
+    let opening = replied(&sender(&SIX), &message(Body::OpeningQuery));
+    let answer = take(&mut state, &mut lent, &opening, &mut output);
+    assert_eq!((answer, &output), (Answer::Waiting, &vec![9; 8]));
+    (state, lent, output)
+}
+
+/// The same after the composition.
+fn composed() -> (Receiver, Lent, Vec<u8>) {
+    let (mut state, mut lent, mut output) = opened();
+    let reply = replied(&sender(&SIX), &query(0, block_id(&SIX)));
+    let answer = take(&mut state, &mut lent, &reply, &mut output);
+    assert_eq!(answer, Answer::Waiting);
+    (state, lent, output)
+}
+
+/// Takes a message that must be refused by this question, and looks at what that leaves.
+fn refused_by(question: u64, (state, lent, output): (Receiver, Lent, Vec<u8>), message: &[u8]) {
+    let (mut after, mut lent_after, mut output_after) =
+        (state.clone(), lent.clone(), output.clone());
+    let answer = take(&mut after, &mut lent_after, message, &mut output_after);
+    assert_eq!(answer, Answer::Refused(question));
+    assert_eq!(lent_after, lent);
+    if question < 12 {
+        assert_eq!((after, output_after), (state, output));
+    } else {
+        assert_eq!(output_after, vec![0; output.len()]);
+        assert!(!running(&after) && outstanding(&after).is_none());
+    }
+}
+
+#[test]
+fn replies_over_six_bytes() {
+    let lent = sender(&SIX);
+    let (root, left, right) = (block_id(&SIX), block_id(&SIX[..2]), block_id(&SIX[2..]));
+    let opening = message(Body::Opening(Opening {
+        rule: 1,
+        window: 2,
+        fan_out: 2,
+        levels: 1,
+        nominal: 2,
+        width: 64,
+        length: 6,
+        root,
+        cells: lent.cell_list(WIDTH),
+    }));
+    assert_eq!(replied(&lent, &message(Body::OpeningQuery)), opening);
+    // The list: the root's pair, then 0 and the left block, then the left block and the right one.
+    let order = composition(root, 0, &[(1, 1), (2, 1)]);
+    assert_eq!(replied(&lent, &query(0, root)), order);
+    assert_eq!(replied(&lent, &query(1, left)), literal(1, left, &SIX[..2]));
+    assert_eq!(
+        replied(&lent, &query(1, right)),
+        literal(1, right, &SIX[2..])
+    );
+    for (level, id) in [
+        (1, root),
+        (0, left),
+        (2, left),
+        (1, 0),
+        ((1 << 28) - 1, left),
+    ] {
+        assert_eq!(
+            replied(&lent, &query(level, id)),
+            message(Body::None { level, id })
+        );
+    }
+}
+
+#[test]
+fn references_count_these_children_only() {
+    // Six bytes 07 are cut into 07, 07, 07 and 07 07 07.
+    let lent = sender(&[7; 6]);
+    let list = lent.shingle_list();
+    let [one, three] = [1, 3].map(|count| block_id(&vec![7; count]));
+    let index = |pair| list.iter().position(|s| s.pair() == pair).expect("listed") as u32;
+    let mut references = [
+        (index((1, 0, one)), 1),
+        (index((1, one, one)), 2),
+        (index((1, one, three)), 1),
+    ];
+    references.sort();
+    let root = block_id(&[7; 6]);
+    let order = composition(root, 0, &references);
+    assert_eq!(replied(&lent, &query(0, root)), order);
+}
+
+/// The answer of a reply that must leave its buffer as it is.
+fn refused(settings: &Settings, width: u64, lent: &Lent, message: &[u8], bytes: usize) -> u64 {
+    let mut buffer = vec![170; bytes];
+    let answer = reply(settings, width, lent, message, &mut buffer);
+    assert_eq!(buffer, vec![170; bytes]);
+    answer
+}
+
+#[test]
+fn a_sender_asks_1_to_7_again() {
+    let with = |change: fn(&mut Settings)| {
+        let mut settings = SMALLEST;
+        change(&mut settings);
+        settings
+    };
+    let settings = [
+        with(|s| (s.window, s.fan_out) = (13, 9)),
+        with(|s| (s.fan_out, s.levels) = (9, 5)),
+        with(|s| (s.levels, s.nominal) = (5, 1)),
+        with(|s| s.nominal = 1),
+    ];
+    let mut lent = memory(&[0; 65_537]);
+    lent.cells.truncate(7_679);
+    for (settings, question) in settings.iter().zip(1..) {
+        assert_eq!(refused(settings, 0, &lent, &[], 0), question);
+    }
+    assert_eq!(refused(&SMALLEST, 65, &lent, &[], 0), 5);
+    assert_eq!(refused(&SMALLEST, 64, &lent, &[], 0), 6);
+    lent.string.truncate(65_536);
+    assert_eq!(refused(&SMALLEST, 64, &lent, &[], 0), 7);
+}
+
+#[test]
+fn a_sender_asks_10_11_20() {
+    let lent = sender(&SIX);
+    let none = query(1, 77);
+    assert_eq!(refused(&SMALLEST, 64, &lent, &[], 0), 10);
+    assert_eq!(refused(&SMALLEST, 64, &lent, &none[..20], 0), 10);
+    for message in [literal(1, 1, &[1]), message(Body::None { level: 0, id: 1 })] {
+        assert_eq!(refused(&SMALLEST, 64, &lent, &message, 0), 11);
+    }
+    assert_eq!(refused(&SMALLEST, 64, &lent, &none, 23), 20);
+    let mut buffer = [170; 25];
+    let answer = reply(&SMALLEST, 64, &lent, &none, &mut buffer);
+    assert_eq!((answer, buffer[24]), (ACCEPTED + 24, 170));
+}
+
+#[test]
+fn a_node_outside_the_lent_string_is_passed_over() {
+    let mut lent = sender(&SIX);
+    lent.string.truncate(5);
+    let (root, left, right) = (block_id(&SIX), block_id(&SIX[..2]), block_id(&SIX[2..]));
+    let none = |level, id| message(Body::None { level, id });
+    assert_eq!(replied(&lent, &query(0, root)), none(0, root));
+    assert_eq!(replied(&lent, &query(1, right)), none(1, right));
+    assert_eq!(replied(&lent, &query(1, left)), literal(1, left, &SIX[..2]));
+    let opening = parse(&replied(&lent, &message(Body::OpeningQuery))).expect("well formed");
+    let Body::Opening(opening) = opening.body else {
+        panic!("an opening query has an opening");
+    };
+    assert_eq!((opening.length, opening.root), (5, root));
+}
+
+#[test]
+fn a_session_of_six_bytes() {
+    let (mut state, mut lent, mut output) = composed();
+    let (left, right) = (block_id(&SIX[..2]), block_id(&SIX[2..]));
+    assert_eq!(lent.shingle_list(), sender(&SIX).shingle_list());
+    for (id, block, answer) in [
+        (left, &SIX[..2], Answer::Waiting),
+        (right, &SIX[2..], Answer::Handed(6)),
+    ] {
+        let mut buffer = [170; 25];
+        assert_eq!(write_query(&state, &lent, &mut buffer), ACCEPTED + 24);
+        assert_eq!((&buffer[..24], buffer[24]), (query(1, id).as_slice(), 170));
+        assert_eq!(write_query(&state, &lent, &mut [0; 23]), 20);
+        let reply = literal(1, id, block);
+        assert_eq!(take(&mut state, &mut lent, &reply, &mut output), answer);
+    }
+    assert_eq!(output, [0, 3, 0, 0, 1, 0, 9, 9]);
+    assert_eq!(write_query(&state, &lent, &mut [0; 24]), 9);
+    refused_by(9, (state, lent, output), &literal(1, right, &SIX[2..]));
+}
+
+#[test]
+fn own_blocks_of_any_level_are_copied() {
+    // The sender's right block is the receiver's whole string.
+    let (mut state, mut lent) = receiver(&SIX[2..], 5);
+    let mut output = vec![9; 6];
+    let theirs = sender(&SIX);
+    let opening = replied(&theirs, &message(Body::OpeningQuery));
+    assert_eq!(
+        take(&mut state, &mut lent, &opening, &mut output),
+        Answer::Waiting
+    );
+    let order = replied(&theirs, &query(0, block_id(&SIX)));
+    assert_eq!(
+        take(&mut state, &mut lent, &order, &mut output),
+        Answer::Waiting
+    );
+    let left = literal(1, block_id(&SIX[..2]), &SIX[..2]);
+    assert_eq!(
+        take(&mut state, &mut lent, &left, &mut output),
+        Answer::Handed(6)
+    );
+    assert_eq!(output, SIX);
+    // The sender's whole string is a block of the receiver's.
+    let (mut state, mut lent) = receiver(&SIX, 5);
+    let opening = replied(&sender(&SIX[..2]), &message(Body::OpeningQuery));
+    assert_eq!(
+        take(&mut state, &mut lent, &opening, &mut output),
+        Answer::Handed(2)
+    );
+}
+
+#[test]
+fn empty_strings() {
+    let theirs = sender(&[]);
+    let opening = replied(&theirs, &message(Body::OpeningQuery));
+    let (mut state, mut lent) = receiver(&[], 5);
+    assert_eq!(
+        take(&mut state, &mut lent, &opening, &mut []),
+        Answer::Handed(0)
+    );
+    let (mut state, mut lent) = receiver(&[1], 5);
+    let id = block_id(&[]);
+    for (reply, answer) in [
+        (opening, Answer::Waiting),
+        (replied(&theirs, &query(0, id)), Answer::Waiting),
+        (literal(1, id, &[]), Answer::Handed(0)),
+    ] {
+        assert_eq!(take(&mut state, &mut lent, &reply, &mut []), answer);
+    }
+}
+
+#[test]
+fn a_session_number_is_taken_modulo_2_24() {
+    let (state, lent) = receiver(&SIX, (7 << 24) + 5);
+    let mut buffer = [0; 8];
+    assert_eq!(write_query(&state, &lent, &mut buffer), ACCEPTED + 8);
+    assert_eq!(buffer, [0x11, 0, 0, 5, 0x60, 0, 0, 2]);
+}
+
+#[test]
+fn question_9() {
+    let (state, lent, output) = composed();
+    let reply = literal(1, block_id(&SIX[..2]), &SIX[..2]);
+    let top = *state.pile.last().expect("two are pending");
+    let with = |change: &dyn Fn(&mut Receiver)| {
+        let mut state = state.clone();
+        change(&mut state);
+        (state, lent.clone(), output.clone())
+    };
+    refused_by(9, with(&|state| state.stage = Stage::Ended), &reply);
+    refused_by(9, with(&|state| state.pile.clear()), &reply);
+    refused_by(9, with(&|state| state.pile.resize(129, top)), &reply);
+    let (mut full, mut lent_now, mut output_now) = with(&|state| state.pile.resize(128, top));
+    assert!(running(&full));
+    assert_eq!(
+        take(&mut full, &mut lent_now, &reply, &mut output_now),
+        Answer::Waiting
+    );
+    let above = Pending { level: 2, id: 1 };
+    refused_by(9, with(&|state| state.pile[0] = above), &reply);
+    // The odd states are asked before the opening too, but for the empty pile.
+    let (mut early, _) = receiver(&SIX, 5);
+    assert!(running(&early));
+    early.pile = vec![above];
+    assert!(!running(&early));
+}
+
+#[test]
+fn questions_10_and_11() {
+    let (left, right) = (block_id(&SIX[..2]), block_id(&SIX[2..]));
+    let reply = literal(1, left, &SIX[..2]);
+    refused_by(10, composed(), &reply[..reply.len() - 4]);
+    refused_by(10, composed(), &[]);
+    refused_by(11, composed(), &query(1, left));
+    refused_by(11, composed(), &literal(0, left, &SIX[..2]));
+    refused_by(11, composed(), &literal(1, right, &SIX[2..]));
+    let opening = replied(&sender(&SIX), &message(Body::OpeningQuery));
+    refused_by(11, composed(), &opening);
+    let (state, lent) = receiver(&SIX, 5);
+    refused_by(11, (state, lent, vec![9; 6]), &reply);
+    let (state, lent) = receiver(&SIX, 6);
+    refused_by(11, (state, lent, vec![9; 6]), &opening);
+}
+
+/// The opening of the six bytes with a change.
+fn other_opening(change: impl FnOnce(&mut Opening)) -> Vec<u8> {
+    let mut message = parse(&replied(&sender(&SIX), &message(Body::OpeningQuery)))
+        .expect("an opening is well formed");
+    if let Body::Opening(opening) = &mut message.body {
+        change(opening);
+    }
+    encode(&message)
+}
+
+#[test]
+fn questions_12_to_14_of_an_opening() {
+    let fresh = |bytes: usize| {
+        let (state, lent) = receiver(&[0xff; 3], 5);
+        (state, lent, vec![9; bytes])
+    };
+    let wrong = |opening: &mut Opening| (opening.length, opening.cells[0][0]) = (65_537, 5);
+    let rule = |opening: &mut Opening| opening.rule = 2;
+    let nominal = |opening: &mut Opening| opening.nominal = 3;
+    refused_by(12, fresh(6), &other_opening(|o| (wrong(o), rule(o)).1));
+    refused_by(12, fresh(6), &other_opening(|o| (wrong(o), nominal(o)).1));
+    refused_by(13, fresh(6), &other_opening(wrong));
+    refused_by(13, fresh(70_000), &other_opening(wrong));
+    refused_by(13, fresh(5), &other_opening(|_| ()));
+    refused_by(14, fresh(6), &other_opening(|o| o.cells[0][0] = 5));
+}
+
+#[test]
+fn an_opening_refused_at_18_or_19_leaves_the_table() {
+    // The root is an own block, so that it is copied at once.
+    let other =
+        |length: u32| other_opening(|o| (o.length, o.root) = (length, block_id(&[0xff; 3])));
+    let fresh = || {
+        let (state, lent) = receiver(&[0xff; 3], 5);
+        (state, lent, vec![9; 6])
+    };
+    refused_by(18, fresh(), &other(2));
+    refused_by(19, fresh(), &other(4));
+    let (mut state, mut lent, mut output) = fresh();
+    let answer = take(&mut state, &mut lent, &other(3), &mut output);
+    assert_eq!(
+        (answer, output),
+        (Answer::Handed(3), vec![255, 255, 255, 9, 9, 9])
+    );
+    assert_eq!(lent.shingle_list(), sender(&SIX).shingle_list());
+}
+
+#[test]
+fn questions_13_15_and_16_of_a_node_reply() {
+    let left = block_id(&SIX[..2]);
+    let none = message(Body::None { level: 1, id: left });
+    let (mut state, lent, output) = composed();
+    refused_by(16, (state.clone(), lent.clone(), output.clone()), &none);
+    state.replies = 4_096;
+    refused_by(15, (state.clone(), lent.clone(), output.clone()), &none);
+    refused_by(13, (state.clone(), lent.clone(), vec![9; 5]), &none);
+    state.length = 65_537;
+    refused_by(13, (state.clone(), lent.clone(), vec![9; 70_000]), &none);
+    (state.length, state.replies) = (6, 4_095);
+    let (mut lent, mut output) = (lent, output);
+    let reply = literal(1, left, &SIX[..2]);
+    assert_eq!(
+        take(&mut state, &mut lent, &reply, &mut output),
+        Answer::Waiting
+    );
+    assert_eq!(state.replies, 4_096);
+}
+
+#[test]
+fn question_17() {
+    let root = block_id(&SIX);
+    let refused = |number: u32, references: &[(u32, u32)]| {
+        refused_by(17, opened(), &composition(root, number, references));
+    };
+    refused(0, &[]);
+    refused(0, &[(0, 1)]);
+    refused(0, &[(1, 1), (3, 1)]);
+    refused(0, &[(1, 1), (2, 2)]);
+    refused(0, &[(2, 1)]);
+    refused(1, &[(1, 1), (2, 1)]);
+    refused(4_096, &[(1, 1), (2, 1)]);
+    // At level L.
+    let left = block_id(&SIX[..2]);
+    let reference = Reference { index: 1, count: 1 };
+    let body = Body::Composition {
+        level: 1,
+        id: left,
+        number: 0,
+        references: vec![reference],
+    };
+    refused_by(17, composed(), &message(body));
+    // Two children in place of one node, on a pile that is full.
+    let order = composition(root, 0, &[(2, 1), (1, 1)]);
+    let (mut state, mut lent, mut output) = opened();
+    let below = Pending { level: 1, id: 1 };
+    state.pile.splice(0..0, vec![below; 127]);
+    refused_by(17, (state.clone(), lent.clone(), output.clone()), &order);
+    state.pile.remove(0);
+    assert_eq!(
+        take(&mut state, &mut lent, &order, &mut output),
+        Answer::Waiting
+    );
+    assert_eq!(state.pile.len(), 128);
+    assert_eq!(state.pile[127], Pending { level: 1, id: left });
+}
+
+#[test]
+fn questions_18_and_19_of_a_node_reply() {
+    let (left, right) = (block_id(&SIX[..2]), block_id(&SIX[2..]));
+    refused_by(18, composed(), &literal(1, left, &[1; 7]));
+    let root = block_id(&SIX);
+    refused_by(19, opened(), &literal(0, root, &SIX[..5]));
+    refused_by(19, opened(), &literal(0, root, &[7; 6]));
+    let (mut state, mut lent, mut output) = composed();
+    let reply = literal(1, left, &SIX[..2]);
+    assert_eq!(
+        take(&mut state, &mut lent, &reply, &mut output),
+        Answer::Waiting
+    );
+    // A byte that was built before is changed by the caller.
+    output[0] ^= 1;
+    refused_by(19, (state, lent, output), &literal(1, right, &SIX[2..]));
+}
