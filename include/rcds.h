@@ -48,8 +48,9 @@
  *      and a trail of that number?
  *  20  room for what is written?
  *
- * A sender's call asks 1 to 7 again, of the settings that its state holds and of
- * what it is lent. A state that is too short reads as zeros, and is refused by 1.
+ * A sender's reply asks 1 to 7 again, of the settings that its state holds and
+ * of what it is lent. What a state lacks reads as 0, so one that is too short is
+ * refused by 1 to 5, the first setting that it lacks.
  */
 #ifndef RCDS_H
 #define RCDS_H

@@ -67,10 +67,13 @@ IsReply σ string (composition n l i x refs) m = ⊥
 IsReply σ string (literal n l i bytes) m = ⊥
 IsReply σ string (noNode n l i) m = ⊥
 
+-- "A session number serves one string when, modulo 2^24, all sender setups that reply under it have that string and equal settings; under
+-- the receiver's number, that string and those settings are its sender's": asked of the sender of one reply, under the receiver's number.
+abbrev pub ServesOneString : Settings → List ℕ → ℕ → Msg → Settings → List ℕ → Type 0
+ServesOneString σ string session query τ sender = sessionOf query ≡ session → (τ ≡ σ) × (sender ≡ string)
+
 -- The bytes are a genuine reply to the query, which the sender read and which therefore is within its fields: some sender's, set up over
--- some string. "A session number serves one string when, modulo
--- 2^24, all sender setups that reply under it have that string and equal settings; under the receiver's number, that string and those
--- settings are its sender's": asked here of the sender of this message, under the receiver's number.
+-- some string.
 pub record GenuineReply (σ : Settings) (string : List ℕ) (session : ℕ) (query : Msg) (bytes : List ℕ) : Type 0 where
   pub settings : Settings
   pub sender : List ℕ
@@ -79,7 +82,7 @@ pub record GenuineReply (σ : Settings) (string : List ℕ) (session : ℕ) (que
   pub asked : Valid query
   pub replies : IsReply settings sender query message
   pub written : bytes ≡ encode message
-  pub serves : sessionOf query ≡ session → (settings ≡ σ) × (sender ≡ string)
+  pub serves : ServesOneString σ string session query settings sender
 
 -- A genuine message, to whatever query and whenever it was written.
 pub record Genuine (σ : Settings) (string : List ℕ) (session : ℕ) (bytes : List ℕ) : Type 0 where
