@@ -1,5 +1,5 @@
 -- Looking a node up, entry by entry: what the entries from k on say is what the whole table says.
-use mathlib.Core.Bool.{Bool, true, false, false≢true}
+use mathlib.Core.Bool.{Bool, true, false, _&&_, false≢true}
 use mathlib.Core.List.{List}
 use mathlib.Core.Option.{Option, none, some}
 use mathlib.Core.Path.{_≡_, refl, sym, ap, _∙_}
@@ -15,7 +15,7 @@ use Rattle.protocol.specs.Nodes.{entryAt, inside, entriesFrom, entriesIn, block
 module _ (string nodes : List ℕ) (id : ℕ) where
   -- What the entries from k on say.
   abbrev fromOn : ℕ → ℕ → Option (List ℕ)
-  fromOn left k = firstBlock string (fromFirst (λ e. eqb (e .id) id) (entriesFrom nodes (length string) left k))
+  fromOn left k = firstBlock string (fromFirst (λ e. inside (length string) e && eqb (e .id) id) (entriesFrom nodes left k))
 
   -- Nothing before entry k was it.
   pub record Looking (n k : ℕ) : Type 0 where

@@ -1,6 +1,6 @@
 -- What an accepted setup leaves is what a session starts from: long enough, its nodes are those of the own tree, and its list and cells
 -- are the own string's.
-use mathlib.Core.Bool.{Bool, true, false, cond}
+use mathlib.Core.Bool.{Bool, true, false, cond, _&&_}
 use mathlib.Core.List.{List, [], _∷_, _++_, map}
 use mathlib.Core.Logic.{inl, inr}
 use mathlib.Core.Option.{Option, none, some}
@@ -24,6 +24,7 @@ use Rattle.tree.proofs.Questions.{granted}
 use Rattle.tree.proofs.Tree.{each-at, nodes-within}
 use Rattle.tree.proofs.Listed.{node-listed, none-listed}
 use Rattle.entries.specs.Entries.{tableBytes}
+use Rattle.shingle.proofs.PairOrder.{and-true}
 use Rattle.shingle.specs.Table.{shinglesIn, entryOf}
 use Rattle.sketch.specs.Sums.{along}
 use Rattle.sketch.specs.Cells.{cellsOf}
@@ -104,30 +105,29 @@ module _ (σ : Settings) (own nodes : List ℕ) (accepted : treeRefusal σ own (
         | no h ↦ absurd (eqb-false (idAt table k) 0 e (none-listed σ own nodes accepted k (omega (arith, h))))
       ]
 
-  every-entry : (size left k : ℕ) → Every (BlockOf σ own) (entriesFrom table size left k)
+  every-entry : (left k : ℕ) → Every (BlockOf σ own) (entriesFrom table left k)
   unfolding entriesFrom Every
-  every-entry size zero k = tt
-  every-entry size (suc left) k = go (eqb (idAt table k) 0) (inside size (entryAt table k)) refl (every-entry size left (k + 1))
+  every-entry zero k = tt
+  every-entry (suc left) k = go (eqb (idAt table k) 0) refl (every-entry left (k + 1))
     where
-      go : (t u : Bool) → eqb (idAt table k) 0 ≡ t → Every (BlockOf σ own) (entriesFrom table size left (k + 1))
-          → Every (BlockOf σ own) (cond t [] (cond u (entryAt table k ∷ entriesFrom table size left (k + 1)) (entriesFrom table size left (k + 1))))
-      go true u e rest = unfold Every in tt
-      go false true e rest = unfold Every in (entry-block k e, rest)
-      go false false e rest = rest
+      go : (t : Bool) → eqb (idAt table k) 0 ≡ t → Every (BlockOf σ own) (entriesFrom table left (k + 1))
+          → Every (BlockOf σ own) (cond t [] (entryAt table k ∷ entriesFrom table left (k + 1)))
+      go true e rest = unfold Every in tt
+      go false e rest = unfold Every in (entry-block k e, rest)
 
   -- What is found under an id is a block of the own tree with that id.
-  found-block : (id : ℕ) (es : List Entry) (x : List ℕ) → Every (BlockOf σ own) es → firstBlock own (fromFirst (λ e. eqb (e .id) id) es) ≡ some x
+  found-block : (id : ℕ) (es : List Entry) (x : List ℕ) → Every (BlockOf σ own) es → firstBlock own (fromFirst (λ e. inside (length own) e && eqb (e .id) id) es) ≡ some x
       → (c : Content) × In c (blocksOf σ own) × (blockId (c .bytes) ≡ id) × (x ≡ c .bytes)
   unfolding fromFirst Every
   found-block id [] x h e = unfold firstBlock in absurd (none-not e)
-  found-block id (y ∷ es) x h e = go (eqb (y .id) id) refl e (found-block id es x (h .1))
+  found-block id (y ∷ es) x h e = go (inside (length own) y && eqb (y .id) id) refl e (found-block id es x (h .1))
     where
-      go : (t : Bool) → eqb (y .id) id ≡ t → firstBlock own (cond t (y ∷ es) (fromFirst (λ e. eqb (e .id) id) es)) ≡ some x
-          → (firstBlock own (fromFirst (λ e. eqb (e .id) id) es) ≡ some x → (c : Content) × In c (blocksOf σ own) × (blockId (c .bytes) ≡ id) × (x ≡ c .bytes))
+      go : (t : Bool) → (inside (length own) y && eqb (y .id) id) ≡ t → firstBlock own (cond t (y ∷ es) (fromFirst (λ e. inside (length own) e && eqb (e .id) id) es)) ≡ some x
+          → (firstBlock own (fromFirst (λ e. inside (length own) e && eqb (e .id) id) es) ≡ some x → (c : Content) × In c (blocksOf σ own) × (blockId (c .bytes) ≡ id) × (x ≡ c .bytes))
           → (c : Content) × In c (blocksOf σ own) × (blockId (c .bytes) ≡ id) × (x ≡ c .bytes)
       go true f g rest =
           unfold firstBlock in
-          (h .0 .of, h .0 .there, h .0 .id ∙ eqb-true (y .id) id f, sym (same-bytes g) ∙ h .0 .bytes)
+          (h .0 .of, h .0 .there, h .0 .id ∙ eqb-true (y .id) id (and-true (inside (length own) y) _ f .1), sym (same-bytes g) ∙ h .0 .bytes)
       go false f g rest = rest g
 
 -- What an accepted setup leaves.
@@ -207,7 +207,7 @@ module _ (σ : Settings) (m : Lent) (set-up : SetupAccepts σ m) where
         record {
           same = λ c real x e.
               let found = found-block σ own (m .nodes) accepted (blockId (c .bytes)) _ x
-              (every-entry σ own (m .nodes) accepted (length own) (length (treeTable σ own (m .nodes)) / 16) 0) (rw nodes-is at e) in
+              (every-entry σ own (m .nodes) accepted (length (treeTable σ own (m .nodes)) / 16) 0) (rw nodes-is at e) in
               found .3 ∙ apart (found .0) c (found .1) real (found .2);
         }
 

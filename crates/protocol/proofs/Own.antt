@@ -17,7 +17,7 @@ use Rattle.tree.specs.declared.Settings.{Settings}
 use Rattle.tree.specs.Tree.{Node, node, childrenOf, inTurn, treeOf, nodesOf}
 use Rattle.tree.specs.Laws.{content, Each, none as none-within, both as both-within, Within}
 use Rattle.tree.specs.Table.{idAt, treeRefusal, treeTable}
-use Rattle.tree.proofs.Tree.{each-at, nodes-within}
+use Rattle.tree.proofs.Tree.{nodes-within}
 use Rattle.tree.proofs.Listed.{node-listed, none-listed}
 use Rattle.shingle.specs.declared.Shingle.{Shingle}
 use Rattle.shingle.proofs.PairOrder.{and-true}
@@ -60,7 +60,7 @@ module _ (σ : Settings) (string nodes : List ℕ) (accepted : treeRefusal σ st
       let l = node-listed σ string nodes accepted k nothing h in
       λ i. record { level = l .level i; id = l .id i; start = l .start i; size = l .size i }
 
-  entries-are : (left k : ℕ) → length tree ≤ left + k → entriesFrom table (length string) left k ≡ map entryOf (drop k tree)
+  entries-are : (left k : ℕ) → length tree ≤ left + k → entriesFrom table left k ≡ map entryOf (drop k tree)
   unfolding entriesFrom
   entries-are zero k h = sym (ap (map entryOf) (drop-of-length-le tree {i = k} (omega (arith, h))))
   entries-are (suc left) k h =
@@ -69,12 +69,9 @@ module _ (σ : Settings) (string nodes : List ℕ) (accepted : treeRefusal σ st
             let n = getD tree k nothing in
             let e = entry-is k l in
             let here : idAt table k ≡ blockId (n .bytes) = ap (λ (x : Entry). x .id) e in
-            let within = each-at (nodes-within σ string) k nothing l in
-            let fits : inside (length string) (entryAt table k) ≡ true =
-            ap (inside (length string)) e ∙ le-leb (n .start + length (n .bytes)) (length string) (within .inside) in
             let next : k + 1 ≡ suc k = omega arith in
             let rest = entries-are left (k + 1) (omega (arith, h)) ∙ ap (λ (j : ℕ). map entryOf (drop j tree)) next in
-            rw (ne-eqb (idAt table k) 0 (λ z. block-id-nonzero (n .bytes) (sym here ∙ z)), fits, drop-cons tree k nothing l) (λ i. e i ∷ rest i)
+            rw (ne-eqb (idAt table k) 0 (λ z. block-id-nonzero (n .bytes) (sym here ∙ z)), drop-cons tree k nothing l) (λ i. e i ∷ rest i)
         | no l ↦
             rw (eq-eqb (idAt table k) 0 (none-listed σ string nodes accepted k (omega (arith, l))), drop-of-length-le tree {i = k} (omega (arith, l))) refl
       ]
@@ -84,11 +81,19 @@ unfoldable kidsIn : ℕ → List Node → List ℕ
 kidsIn l [] = []
 kidsIn l (n ∷ ns) = cond (leb (n .level) l) [] (cond (eqb (n .level) (l + 1)) (blockId (n .bytes) ∷ kidsIn l ns) (kidsIn l ns))
 
-kids-in : (l : ℕ) (ns : List Node) → childIds l (map entryOf ns) ≡ kidsIn l ns
+-- Nodes that lie in the string.
+abbrev Inside : List ℕ → List Node → Type 0
+Inside string ns = Each (λ x. Within string (x .start) (x .bytes)) ns
+
+lies-inside : (string : List ℕ) (x : Node) → Within string (x .start) (x .bytes) → inside (length string) (entryOf x) ≡ true
+lies-inside string x w = le-leb (x .start + length (x .bytes)) (length string) (w .inside)
+
+kids-in : (string : List ℕ) (l : ℕ) (ns : List Node) → Inside string ns → childIds (length string) l (map entryOf ns) ≡ kidsIn l ns
 unfolding childIds kidsIn
-kids-in l [] = refl
-kids-in l (n ∷ ns) =
-    λ i. cond (leb (n .level) l) [] (cond (eqb (n .level) (l + 1)) (blockId (n .bytes) ∷ kids-in l ns i) (kids-in l ns i))
+kids-in string l [] none-within = refl
+kids-in string l (n ∷ ns) (both-within w ws) =
+    rw (lies-inside string n w)
+    (λ i. cond (leb (n .level) l) [] (cond (eqb (n .level) (l + 1)) (blockId (n .bytes) ∷ kids-in string l ns ws i) (kids-in string l ns ws i)))
 
 -- The list ends, or goes on with a node of level l or above it.
 pub data Stops (l : ℕ) : List Node → Type 0 where
@@ -195,13 +200,16 @@ unfoldable fromNode : ℕ → ℕ → List Node → List Node
 fromNode l i [] = []
 fromNode l i (n ∷ ns) = cond (eqb (n .level) l && eqb (blockId (n .bytes)) i) (n ∷ ns) (fromNode l i ns)
 
-from-node : (l i : ℕ) (ns : List Node) → fromFirst (λ e. eqb (e .level) l && eqb (e .id) i) (map entryOf ns) ≡ map entryOf (fromNode l i ns)
+from-node : (string : List ℕ) (l i : ℕ) (ns : List Node) → Inside string ns
+    → fromFirst (λ e. inside (length string) e && (eqb (e .level) l && eqb (e .id) i)) (map entryOf ns) ≡ map entryOf (fromNode l i ns)
 unfolding fromFirst fromNode
-from-node l i [] = refl
-from-node l i (n ∷ ns) = go (eqb (n .level) l && eqb (blockId (n .bytes)) i) (from-node l i ns)
+from-node string l i [] none-within = refl
+from-node string l i (n ∷ ns) (both-within w ws) =
+    rw (lies-inside string n w) (go (eqb (n .level) l && eqb (blockId (n .bytes)) i) (from-node string l i ns ws))
   where
-    go : (t : Bool) → fromFirst (λ e. eqb (e .level) l && eqb (e .id) i) (map entryOf ns) ≡ map entryOf (fromNode l i ns)
-        → cond t (map entryOf (n ∷ ns)) (fromFirst (λ e. eqb (e .level) l && eqb (e .id) i) (map entryOf ns)) ≡ map entryOf (cond t (n ∷ ns) (fromNode l i ns))
+    go : (t : Bool) → fromFirst (λ e. inside (length string) e && (eqb (e .level) l && eqb (e .id) i)) (map entryOf ns) ≡ map entryOf (fromNode l i ns)
+        → cond t (map entryOf (n ∷ ns)) (fromFirst (λ e. inside (length string) e && (eqb (e .level) l && eqb (e .id) i)) (map entryOf ns))
+        ≡ map entryOf (cond t (n ∷ ns) (fromNode l i ns))
     go true e = refl
     go false e = e
 
@@ -211,13 +219,13 @@ module _ (σ : Settings) (string : List ℕ) (n l i : ℕ) where
   list = shinglesOfString σ string
 
   module _ (x : Node) (ns : List Node) (level : x .level ≡ l) (kids : x .level < σ .levels → kidsIn (x .level) ns ≡ childrenIds σ (x .level) (x .bytes))
-      (within : Within string (x .start) (x .bytes)) where
+      (within : Within string (x .start) (x .bytes)) (behind : Inside string ns) where
     abbrev ids : List ℕ
-    ids = childIds l (map entryOf ns)
+    ids = childIds (length string) l (map entryOf ns)
 
     ids-are : l < σ .levels → ids ≡ childrenIds σ l (x .bytes)
     ids-are h =
-        kids-in l ns
+        kids-in string l ns behind
         ∙ (ap (λ (k : ℕ). kidsIn k ns) (sym level) ∙ (kids (omega (arith, level, h)) ∙ ap (λ (k : ℕ). childrenIds σ k (x .bytes)) level))
 
     shallow-only : (a b : List ℕ) → (l < σ .levels → a ≡ b) → composable σ l a ≡ composable σ l b
@@ -264,7 +272,7 @@ module _ (σ : Settings) (string : List ℕ) (n l i : ℕ) where
     unfolding IsNodeReply nodeReply
     first-reply = rw (few-referred, sym (shallow-only ids (childrenIds σ l (x .bytes)) ids-are)) (block-reply (composable σ l ids) refl)
 
-  nodes-reply : (ns : List Node) → Tidy σ ns → Each (λ x. Within string (x .start) (x .bytes)) ns
+  nodes-reply : (ns : List Node) → Tidy σ ns → Inside string ns
       → IsNodeReply σ string n l i (firstOf l i (map content ns)) (nodeReply σ string list n l i (map entryOf (fromNode l i ns)))
   unfolding firstOf fromNode Tidy
   nodes-reply [] tidy none-within = unfold IsNodeReply nodeReply in refl
@@ -273,7 +281,7 @@ module _ (σ : Settings) (string : List ℕ) (n l i : ℕ) where
       go : (t : Bool) → (eqb (x .level) l && eqb (blockId (x .bytes)) i) ≡ t
           → IsNodeReply σ string n l i (firstOf l i (map content ns)) (nodeReply σ string list n l i (map entryOf (fromNode l i ns)))
           → IsNodeReply σ string n l i (cond t (some (x .bytes)) (firstOf l i (map content ns))) (nodeReply σ string list n l i (map entryOf (cond t (x ∷ ns) (fromNode l i ns))))
-      go true e rest = first-reply x ns (eqb-true _ _ (and-true (eqb (x .level) l) _ e .0)) (tidy .0) w
+      go true e rest = first-reply x ns (eqb-true _ _ (and-true (eqb (x .level) l) _ e .0)) (tidy .0) w ws
       go false e rest = rest
 
 -- A sender's replies, its state and tables as its setup left them, are genuine.
@@ -281,12 +289,12 @@ module _ (σ : Settings) (m : Lent) (set-up : SetupAccepts σ m) where
   abbrev left : Lent
   left = leftBySetup σ m
 
-  entries-left : entriesIn (left .nodes) (length (m .string)) ≡ map entryOf (nodesOf σ (m .string))
+  entries-left : entriesIn (left .nodes) ≡ map entryOf (nodesOf σ (m .string))
   unfolding entriesIn
   entries-left =
       let given = setup-passed σ (m .string) true (m .nodes) (m .shingles) (m .cells) set-up in
       let long = nodes-length σ (m .string) (m .nodes) (left .nodes) (m .shingles) (left .shingles) (m .cells) (left .cells) true _ (made σ m set-up) in
-      ap (λ (t : List ℕ). entriesFrom t (length (m .string)) (length (left .nodes) / 16) 0) (nodes-is σ m set-up)
+      ap (λ (t : List ℕ). entriesFrom t (length (left .nodes) / 16) 0) (nodes-is σ m set-up)
       ∙ entries-are σ (m .string) (m .nodes) (accepted σ m set-up) (length (left .nodes) / 16) 0 (omega (arith, given .2, given .1 .node-room, long))
 
   pub replies-genuine : (query x : Msg) → replyTo σ left query ≡ some x → IsReply σ (m .string) query x
@@ -300,8 +308,8 @@ module _ (σ : Settings) (m : Lent) (set-up : SetupAccepts σ m) where
       let list = list-again σ m set-up in
       let is : x ≡ nodeReply σ (m .string) (shinglesOfString σ (m .string)) n l i (map entryOf (fromNode l i (nodesOf σ (m .string)))) =
       sym (same-message e)
-      ∙ (λ j. nodeReply σ (m .string) (list j) n l i (fromFirst (λ e. eqb (e .level) l && eqb (e .id) i) (entries-left j)))
-      ∙ ap (nodeReply σ (m .string) (shinglesOfString σ (m .string)) n l i) (from-node l i (nodesOf σ (m .string))) in
+      ∙ (λ j. nodeReply σ (m .string) (list j) n l i (fromFirst (λ e. inside (length (m .string)) e && (eqb (e .level) l && eqb (e .id) i)) (entries-left j)))
+      ∙ ap (nodeReply σ (m .string) (shinglesOfString σ (m .string)) n l i) (from-node (m .string) l i (nodesOf σ (m .string)) (nodes-within σ (m .string))) in
       rw is (nodes-reply σ (m .string) n l i (nodesOf σ (m .string)) (tidy-nodes σ (m .string)) (nodes-within σ (m .string)))
   replies-genuine (opening n rule w p L M q size root cells) x e = absurd (no-message e)
   replies-genuine (composition n l i y refs) x e = absurd (no-message e)

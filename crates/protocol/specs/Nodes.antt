@@ -1,6 +1,6 @@
 -- Reading a node table of any content: "A node table is read up to its first id 0 .. A node entry that points outside the lent
 -- string is passed over; other entries are read as given."
-use mathlib.Core.Bool.{Bool, cond}
+use mathlib.Core.Bool.{Bool, cond, _&&_}
 use mathlib.Core.List.{List, [], _∷_}
 use mathlib.Core.Option.{Option, none, some}
 use Prim.Native.Nat.{ℕ, zero, suc, _+_, _/_}
@@ -22,15 +22,13 @@ entryAt nodes k = record { level = levelAt nodes k; id = idAt nodes k; start = s
 abbrev pub inside : ℕ → Entry → Bool
 inside n e = leb (e .start + e .size) n
 
--- At most so many entries from entry k on, for a string of n bytes.
-unfoldable pub entriesFrom : List ℕ → ℕ → ℕ → ℕ → List Entry
-entriesFrom nodes n zero k = []
-entriesFrom nodes n (suc left) k =
-    cond (eqb (idAt nodes k) 0) []
-    (cond (inside n (entryAt nodes k)) (entryAt nodes k ∷ entriesFrom nodes n left (k + 1)) (entriesFrom nodes n left (k + 1)))
+-- At most so many entries from entry k on.
+unfoldable pub entriesFrom : List ℕ → ℕ → ℕ → List Entry
+entriesFrom nodes zero k = []
+entriesFrom nodes (suc left) k = cond (eqb (idAt nodes k) 0) [] (entryAt nodes k ∷ entriesFrom nodes left (k + 1))
 
-unfoldable pub entriesIn : List ℕ → ℕ → List Entry
-entriesIn nodes n = entriesFrom nodes n (length nodes / 16) 0
+unfoldable pub entriesIn : List ℕ → List Entry
+entriesIn nodes = entriesFrom nodes (length nodes / 16) 0
 
 -- The bytes of an entry.
 unfoldable pub blockIn : List ℕ → Entry → List ℕ
@@ -45,6 +43,6 @@ unfoldable pub firstBlock : List ℕ → List Entry → Option (List ℕ)
 firstBlock string [] = none
 firstBlock string (e ∷ es) = some (blockIn string e)
 
--- "an own node at any level, the first such node's bytes": the bytes of the first node with that id, if there is one.
+-- "an own node at any level, the first such node's bytes": the bytes of the first node in the string with that id, if there is one.
 unfoldable pub look : List ℕ → List ℕ → ℕ → Option (List ℕ)
-look string nodes id = firstBlock string (fromFirst (λ e. eqb (e .id) id) (entriesIn nodes (length string)))
+look string nodes id = firstBlock string (fromFirst (λ e. inside (length string) e && eqb (e .id) id) (entriesIn nodes))

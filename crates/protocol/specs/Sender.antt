@@ -19,16 +19,18 @@ use Rattle.trail.specs.Calls.{nonzero}
 use Rattle.message.specs.Words.{Ref}
 use Rattle.message.specs.Messages.{Msg, openingQuery, nodeQuery, opening, composition, literal, noNode, encode, parse}
 use Rattle.protocol.specs.Lent.{Lent, refusedBy}
-use Rattle.protocol.specs.Nodes.{Entry, entriesIn, fromFirst, blockIn}
+use Rattle.protocol.specs.Nodes.{Entry, inside, entriesIn, fromFirst, blockIn}
 
 -- "rule (the number 1)"
 abbrev pub ruleNumber : ℕ
 ruleNumber = 1
 
--- The ids of the children of a node of level l, from the entries after it: those one level down, up to the next that is not deeper.
-unfoldable pub childIds : ℕ → List Entry → List ℕ
-childIds l [] = []
-childIds l (e ∷ es) = cond (leb (e .level) l) [] (cond (eqb (e .level) (l + 1)) (e .id ∷ childIds l es) (childIds l es))
+-- The ids of the children of a node of level l in a string of n bytes, from the entries after it: those one level down, up to the next
+-- that is not deeper. An entry that points outside the string is no child, but it ends the children as any other does.
+unfoldable pub childIds : ℕ → ℕ → List Entry → List ℕ
+childIds n l [] = []
+childIds n l (e ∷ es) =
+    cond (leb (e .level) l) [] (cond (inside n e && eqb (e .level) (l + 1)) (e .id ∷ childIds n l es) (childIds n l es))
 
 -- A type 4 can be written: the level is below L, and the order of the children has a number of at most 4,095.
 unfoldable pub composable : Settings → ℕ → List ℕ → Bool
@@ -57,8 +59,8 @@ referable list l ids = ltb (length (refsOf list l ids)) 33
 unfoldable pub nodeReply : Settings → List ℕ → List Shingle → (session level id : ℕ) → List Entry → Msg
 nodeReply σ string list n l i [] = noNode n l i
 nodeReply σ string list n l i (e ∷ es) =
-    cond (composable σ l (childIds l es) && referable list (l + 1) (childIds l es))
-    (composition n l i (trailNumber (childIds l es)) (refsOf list (l + 1) (childIds l es)))
+    cond (composable σ l (childIds (length string) l es) && referable list (l + 1) (childIds (length string) l es))
+    (composition n l i (trailNumber (childIds (length string) l es)) (refsOf list (l + 1) (childIds (length string) l es)))
     (literal n l i (blockIn string e))
 
 -- "An opening announces the lent string's length and the id of the node table's first entry."
@@ -72,7 +74,7 @@ unfoldable pub replyTo : Settings → Lent → Msg → Option Msg
 replyTo σ m (openingQuery n) = some (openingReply σ m n)
 replyTo σ m (nodeQuery n l i) =
     some (nodeReply σ (m .string) (shinglesIn (m .shingles)) n l i
-    (fromFirst (λ e. eqb (e .level) l && eqb (e .id) i) (entriesIn (m .nodes) (length (m .string)))))
+    (fromFirst (λ e. inside (length (m .string)) e && (eqb (e .level) l && eqb (e .id) i)) (entriesIn (m .nodes))))
 replyTo σ m (opening n rule w p L M q len root cells) = none
 replyTo σ m (composition n l i x refs) = none
 replyTo σ m (literal n l i bytes) = none

@@ -1,5 +1,5 @@
 -- Collecting the ids of a node's children from the entries after it: the start, one turn, and each way out.
-use mathlib.Core.Bool.{Bool, true, false, cond}
+use mathlib.Core.Bool.{Bool, true, false, cond, _&&_}
 use mathlib.Core.List.{List, [], _∷_, _++_, append-nil}
 use mathlib.Core.Path.{_≡_, refl, sym, ap, _∙_}
 use Prim.Native.Nat.{ℕ, suc, _+_, _-_, _/_, _≤_, _<_}
@@ -20,23 +20,29 @@ module _ (nodes : List ℕ) (n l k : ℕ) where
   unfolding roleAt
   role-unused id e z = rw (← e, eq-eqb id 0 z)
 
-  module _ (id : ℕ) (e : id ≡ idAt nodes k) (used : id ≡ 0 → ⊥) (r : Bool) (is : r ≡ inside n (entryAt nodes k)) where
-    pub role-outside : r ≡ false → 1 ≡ roleAt nodes n l k
+  module _ (id : ℕ) (e : id ≡ idAt nodes k) (used : id ≡ 0 → ⊥) (level : ℕ) (f : level ≡ levelAt nodes k) where
+    pub role-end : level ≤ l → 0 ≡ roleAt nodes n l k
     unfolding roleAt
-    role-outside f = rw (← e, ne-eqb id 0 used, sym is ∙ f)
+    role-end h = rw (← e, ne-eqb id 0 used, ← f, le-leb level l h)
 
-    module _ (t : r ≡ true) (level : ℕ) (f : level ≡ levelAt nodes k) where
-      pub role-end : level ≤ l → 0 ≡ roleAt nodes n l k
+    module _ (h : l < level) where
+      pub role-deeper : (level - l ≡ 1 → ⊥) → 1 ≡ roleAt nodes n l k
       unfolding roleAt
-      role-end h = rw (← e, ne-eqb id 0 used, sym is ∙ t, ← f, le-leb level l h)
+      role-deeper g =
+          rw (← e, ne-eqb id 0 used, ← f, lt-leb level l h, ne-eqb level (l + 1) (λ s. g (omega arith))) (sym (never (inside n (entryAt nodes k))))
+        where
+          never : (t : Bool) → _≡_ {A = ℕ} (cond (t && false) 2 1) 1
+          never true = refl
+          never false = refl
 
-      pub role-child : l < level → level - l ≡ 1 → 2 ≡ roleAt nodes n l k
-      unfolding roleAt
-      role-child h g = rw (← e, ne-eqb id 0 used, sym is ∙ t, ← f, lt-leb level l h, eq-eqb level (l + 1) (omega arith))
+      module _ (g : level - l ≡ 1) (r : Bool) (is : r ≡ inside n (entryAt nodes k)) where
+        pub role-child : r ≡ true → 2 ≡ roleAt nodes n l k
+        unfolding roleAt
+        role-child t = rw (← e, ne-eqb id 0 used, ← f, lt-leb level l h, sym is ∙ t, eq-eqb level (l + 1) (omega arith))
 
-      pub role-deeper : l < level → (level - l ≡ 1 → ⊥) → 1 ≡ roleAt nodes n l k
-      unfolding roleAt
-      role-deeper h g = rw (← e, ne-eqb id 0 used, sym is ∙ t, ← f, lt-leb level l h, ne-eqb level (l + 1) (λ s. g (omega arith)))
+        pub role-outside : r ≡ false → 1 ≡ roleAt nodes n l k
+        unfolding roleAt
+        role-outside t = rw (← e, ne-eqb id 0 used, ← f, lt-leb level l h, sym is ∙ t)
 
 -- The ids, from an entry of that role and id and from those after it.
 unfoldable chosen : ℕ → ℕ → List ℕ → List ℕ
@@ -52,17 +58,16 @@ one-role true c id rest = refl
 one-role false true id rest = refl
 one-role false false id rest = refl
 
-one-entry : (l : ℕ) (e : Entry) (es : List Entry) (z b : Bool)
-    → childIds l (cond z [] (cond b (e ∷ es) es))
-    ≡ chosen (cond z 0 (cond b (cond (leb (e .level) l) 0 (cond (eqb (e .level) (l + 1)) 2 1)) 1)) (e .id) (childIds l es)
+one-entry : (n l : ℕ) (e : Entry) (es : List Entry) (z : Bool)
+    → childIds n l (cond z [] (e ∷ es))
+    ≡ chosen (cond z 0 (cond (leb (e .level) l) 0 (cond (inside n e && eqb (e .level) (l + 1)) 2 1))) (e .id) (childIds n l es)
 unfolding childIds chosen
-one-entry l e es true b = refl
-one-entry l e es false true = one-role (leb (e .level) l) (eqb (e .level) (l + 1)) (e .id) (childIds l es)
-one-entry l e es false false = refl
+one-entry n l e es true = refl
+one-entry n l e es false = one-role (leb (e .level) l) (inside n e && eqb (e .level) (l + 1)) (e .id) (childIds n l es)
 
 -- The ids of the children from entry k on.
 abbrev pub idsFrom : List ℕ → (n l k : ℕ) → List ℕ
-idsFrom nodes n l k = childIds l (entriesFrom nodes n (length nodes / 16 - k) k)
+idsFrom nodes n l k = childIds n l (entriesFrom nodes (length nodes / 16 - k) k)
 
 ids-chosen : (nodes : List ℕ) (n l k : ℕ) → k < length nodes / 16
     → idsFrom nodes n l k ≡ chosen (roleAt nodes n l k) (idAt nodes k) (idsFrom nodes n l (k + 1))
@@ -70,7 +75,7 @@ unfolding entriesFrom roleAt
 ids-chosen nodes n l k h =
     let left : length nodes / 16 - k ≡ suc (length nodes / 16 - (k + 1)) = omega arith in
     rw left
-    (one-entry l (entryAt nodes k) (entriesFrom nodes n (length nodes / 16 - (k + 1)) (k + 1)) (eqb (idAt nodes k) 0) (inside n (entryAt nodes k)))
+    (one-entry n l (entryAt nodes k) (entriesFrom nodes (length nodes / 16 - (k + 1)) (k + 1)) (eqb (idAt nodes k) 0))
 
 -- The ids collected and those still to come are all.
 pub record Collecting (all nodes : List ℕ) (n l k count : ℕ) (ids : List ℕ) : Type 0 where
@@ -91,7 +96,7 @@ ended all nodes n l k count ids e c =
       many = λ h. absurd (omega arith);
     }
 
-nothing : (nodes : List ℕ) (n l k m : ℕ) → m ≡ 0 → childIds l (entriesFrom nodes n m k) ≡ []
+nothing : (nodes : List ℕ) (n l k m : ℕ) → m ≡ 0 → childIds n l (entriesFrom nodes m k) ≡ []
 unfolding childIds entriesFrom
 nothing nodes n l k m e = rw e
 

@@ -129,7 +129,7 @@ module _ (σ : Settings) (n : ℕ) (nodes shingles : List ℕ) (session l i k : 
   level-too-low h = not-attempted (first-false _ _ (first-false _ _ (le-ltb l (σ .levels) h)))
 
   module _ (count : ℕ) (ids : List ℕ)
-      (c : Collected (childIds l (entriesFrom nodes n (length nodes / 16 - (k + 1)) (k + 1))) count ids) where
+      (c : Collected (childIds n l (entriesFrom nodes (length nodes / 16 - (k + 1)) (k + 1))) count ids) where
     pub too-many-children : 32 < count → Composing σ n nodes shingles session l i k b b 0
     unfolding composable idsBelow
     too-many-children h =

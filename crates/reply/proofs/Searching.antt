@@ -10,7 +10,7 @@ use lib.Dec.{eqb, leb}
 use lib.ListN.{length}
 use Rattle.tree.specs.Table.{idAt, levelAt, startAt, sizeAt}
 use Rattle.protocol.specs.Nodes.{Entry, entryAt, inside, entriesFrom, entriesIn, fromFirst}
-use Rattle.reply.specs.Parts.{asked, matchAt, Found}
+use Rattle.reply.specs.Parts.{asked, sought, matchAt, Found}
 
 -- Whether entry k lies in the string, from its start and length.
 pub inside-is : (nodes : List ℕ) (n k start size : ℕ) → start ≡ startAt nodes k → size ≡ sizeAt nodes k
@@ -51,33 +51,25 @@ module _ (nodes : List ℕ) (n l i k : ℕ) where
 -- No entry before entry k is one of that level and id.
 pub record Searching (nodes : List ℕ) (n l i k : ℕ) : Type 0 where
   pub bound : k ≤ length nodes / 16
-  pub rest : fromFirst (asked l i) (entriesFrom nodes n (length nodes / 16 - k) k) ≡ fromFirst (asked l i) (entriesIn nodes n)
+  pub rest : fromFirst (sought n l i) (entriesFrom nodes (length nodes / 16 - k) k) ≡ fromFirst (sought n l i) (entriesIn nodes)
 
 pub search-start : (nodes : List ℕ) (n l i : ℕ) → Searching nodes n l i 0
 unfolding entriesIn
 search-start nodes n l i = record { bound = omega arith; rest = rw (sub-zero (length nodes / 16)) }
 
--- What a scan makes of an entry e that may lie in the string.
-scanned : (l i : ℕ) (e : Entry) (es : List Entry) (b : Bool)
-    → fromFirst (asked l i) (cond b (e ∷ es) es) ≡ cond (b && asked l i e) (e ∷ es) (fromFirst (asked l i) es)
-unfolding fromFirst
-scanned l i e es true = refl
-scanned l i e es false = refl
-
 module _ (nodes : List ℕ) (n l i k : ℕ) (h : k < length nodes / 16) where
   left : length nodes / 16 - k ≡ suc (length nodes / 16 - (k + 1))
   left = omega arith
 
-  none-left : idAt nodes k ≡ 0 → entriesFrom nodes n (length nodes / 16 - k) k ≡ []
+  none-left : idAt nodes k ≡ 0 → entriesFrom nodes (length nodes / 16 - k) k ≡ []
   unfolding entriesFrom
   none-left z = rw (left, eq-eqb (idAt nodes k) 0 z)
 
-  one-more : (idAt nodes k ≡ 0 → ⊥) → fromFirst (asked l i) (entriesFrom nodes n (length nodes / 16 - k) k)
-      ≡ cond (matchAt nodes n l i k) (entryAt nodes k ∷ entriesFrom nodes n (length nodes / 16 - (k + 1)) (k + 1))
-      (fromFirst (asked l i) (entriesFrom nodes n (length nodes / 16 - (k + 1)) (k + 1)))
-  unfolding entriesFrom matchAt
-  one-more z = rw (left, ne-eqb (idAt nodes k) 0 z)
-      (scanned l i (entryAt nodes k) (entriesFrom nodes n (length nodes / 16 - (k + 1)) (k + 1)) (inside n (entryAt nodes k)))
+  one-more : (idAt nodes k ≡ 0 → ⊥) → fromFirst (sought n l i) (entriesFrom nodes (length nodes / 16 - k) k)
+      ≡ cond (matchAt nodes n l i k) (entryAt nodes k ∷ entriesFrom nodes (length nodes / 16 - (k + 1)) (k + 1))
+      (fromFirst (sought n l i) (entriesFrom nodes (length nodes / 16 - (k + 1)) (k + 1)))
+  unfolding entriesFrom fromFirst matchAt
+  one-more z = rw (left, ne-eqb (idAt nodes k) 0 z) refl
 
   pub search-zero : idAt nodes k ≡ 0 → Searching nodes n l i k → Found nodes n l i (length nodes / 16)
   unfolding fromFirst

@@ -37,22 +37,26 @@ queryOf (NoNode n l i) = query 11 0 0 0
 abbrev pub asked : ℕ → ℕ → Entry → Bool
 asked l i e = eqb (e .level) l && eqb (e .id) i
 
--- Entry k lies in a string of n bytes and has that level and id.
+-- It lies in a string of n bytes too.
+abbrev pub sought : ℕ → ℕ → ℕ → Entry → Bool
+sought n l i e = inside n e && asked l i e
+
+-- So it is with entry k.
 unfoldable pub matchAt : List ℕ → (n l i k : ℕ) → Bool
-matchAt nodes n l i k = inside n (entryAt nodes k) && asked l i (entryAt nodes k)
+matchAt nodes n l i k = sought n l i (entryAt nodes k)
 
 -- Entry k is the first of that level and id in a string of n bytes; or there is none, and the table has no entry k.
 pub record Found (nodes : List ℕ) (n l i k : ℕ) : Type 0 where
   pub here : k < length nodes / 16
-      → fromFirst (asked l i) (entriesIn nodes n) ≡ entryAt nodes k ∷ entriesFrom nodes n (length nodes / 16 - (k + 1)) (k + 1)
+      → fromFirst (sought n l i) (entriesIn nodes) ≡ entryAt nodes k ∷ entriesFrom nodes (length nodes / 16 - (k + 1)) (k + 1)
   pub in-string : k < length nodes / 16 → inside n (entryAt nodes k) ≡ true
-  pub none : length nodes / 16 ≤ k → fromFirst (asked l i) (entriesIn nodes n) ≡ []
+  pub none : length nodes / 16 ≤ k → fromFirst (sought n l i) (entriesIn nodes) ≡ []
 
 -- What entry k is to a node of level l before it: 0 the end of its descendants, 1 passed over, 2 a child.
 unfoldable pub roleAt : List ℕ → (n l k : ℕ) → ℕ
 roleAt nodes n l k =
     cond (eqb (idAt nodes k) 0) 0
-    (cond (inside n (entryAt nodes k)) (cond (leb (levelAt nodes k) l) 0 (cond (eqb (levelAt nodes k) (l + 1)) 2 1)) 1)
+    (cond (leb (levelAt nodes k) l) 0 (cond (inside n (entryAt nodes k) && eqb (levelAt nodes k) (l + 1)) 2 1))
 
 -- All of these ids, if there are at most 32; else a count above 32.
 pub record Collected (all : List ℕ) (count : ℕ) (ids : List ℕ) : Type 0 where
@@ -82,7 +86,7 @@ compositionOf shingles n l i ids = composition n l i (trailNumber ids) (refsOf (
 
 -- The ids of the children of the node of entry k, which has level l.
 unfoldable pub idsBelow : List ℕ → (n l k : ℕ) → List ℕ
-idsBelow nodes n l k = childIds l (entriesFrom nodes n (length nodes / 16 - (k + 1)) (k + 1))
+idsBelow nodes n l k = childIds n l (entriesFrom nodes (length nodes / 16 - (k + 1)) (k + 1))
 
 -- The composition of the node of entry k.
 abbrev pub Composing : Settings → ℕ → (nodes shingles : List ℕ) → (session l i k : ℕ) → (before after : List ℕ) → ℕ → Type 0
@@ -95,4 +99,4 @@ unfoldable pub openingOf : Settings → (string nodes cells : List ℕ) → ℕ 
 openingOf σ string nodes cells n = openingReply σ (lent string nodes [] cells []) n
 
 unfoldable pub nodeReplyOf : Settings → (string nodes shingles : List ℕ) → (session l i : ℕ) → Msg
-nodeReplyOf σ string nodes shingles n l i = nodeReply σ string (shinglesIn shingles) n l i (fromFirst (asked l i) (entriesIn nodes (length string)))
+nodeReplyOf σ string nodes shingles n l i = nodeReply σ string (shinglesIn shingles) n l i (fromFirst (sought (length string) l i) (entriesIn nodes))

@@ -20,21 +20,22 @@ fn role(nodes: &[u8], size: usize, level: u64, k: usize) -> u64
     if tree::node_id(nodes, k) == 0 {
         return 0;
     }
+    let own = tree::node_level(nodes, k);
+    if own <= level {
+        return 0;
+    }
+    if own - level != 1 {
+        return 1;
+    }
     if lies_inside(nodes, size, k) {
-        let own = tree::node_level(nodes, k);
-        if own <= level {
-            return 0;
-        }
-        if own - level == 1 {
-            return 2;
-        }
+        return 2;
     }
     1
 }
 
 // The children of a node of that level whose entry stands before entry `from`.
 pub fn collect(nodes: &[u8], size: usize, level: u64, from: usize) -> Children
-    ensures { λ r. ⌜ Collected (childIds level (entriesFrom (now (nodes .entry)) size (length (now (nodes .entry)) / 16 - from) from)) (r .count)
+    ensures { λ r. ⌜ Collected (childIds size level (entriesFrom (now (nodes .entry)) (length (now (nodes .entry)) / 16 - from) from)) (r .count)
         (r .ids) ⌝ }
 {
     let end = nodes.len() / 16;

@@ -21,6 +21,12 @@ pub enum Difference {
         buffer: &'static str,
         place: isize,
     },
+    /// An answer that the call never gives, where the reference's is one of several.
+    NotItsOwn {
+        given: u64,
+    },
+    /// What was written is no message of type 3 to 6 with the query's session.
+    NoReply,
 }
 
 impl fmt::Display for Difference {
@@ -45,6 +51,12 @@ impl fmt::Display for Difference {
                     f,
                     "a byte outside the {buffer} changed, at {place} from its start"
                 )
+            }
+            Difference::NotItsOwn { given } => {
+                write!(f, "answer {given}, which is none of the call's own")
+            }
+            Difference::NoReply => {
+                write!(f, "what was written is no reply of the query's session")
             }
         }
     }

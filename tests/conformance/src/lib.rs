@@ -10,6 +10,7 @@ pub mod lent;
 pub mod messages;
 pub mod openings;
 pub mod random;
+pub mod replies;
 pub mod settings;
 pub mod setups;
 pub mod trails;

@@ -2,8 +2,8 @@
 //!
 //!     conformance [GROUP...] [SEED [CASE]]
 //!
-//! The groups are `tree`, `trails`, `messages`, `setups` and `openings`; none stands for all that are
-//! built in. Without a case it runs all of them and prints a line for each call; it stops at the first
+//! The groups are `tree`, `trails`, `messages`, `setups`, `replies` and `openings`; none stands for all
+//! that are built in. Without a case it runs all of them and prints a line for each call; it stops at the first
 //! that differs. With a case, and then with one group, it runs that case alone.
 //!
 //! A group is built in by the feature of its name. All are, unless cargo is told otherwise.
@@ -25,6 +25,8 @@ const GROUPS: &[(&str, Run)] = &[
     ("messages", messages::run),
     #[cfg(feature = "setups")]
     ("setups", setups::run),
+    #[cfg(feature = "replies")]
+    ("replies", replies::run),
     #[cfg(feature = "openings")]
     ("openings", openings::run),
 ];
@@ -130,6 +132,38 @@ mod setups {
         match case {
             None => run_all(seed, rcds_sender_setup),
             Some(number) => run_one(seed, number, rcds_sender_setup),
+        }
+    }
+}
+
+#[cfg(feature = "replies")]
+mod replies {
+    use conformance::failure::Failure;
+    use conformance::replies::{run_all, run_one};
+
+    extern "C" {
+        fn rcds_reply(
+            state: *const u8,
+            state_len: usize,
+            string: *const u8,
+            string_len: usize,
+            nodes: *const u8,
+            nodes_len: usize,
+            shingles: *const u8,
+            shingles_len: usize,
+            cells: *const u8,
+            cells_len: usize,
+            message: *const u8,
+            message_len: usize,
+            out: *mut u8,
+            out_len: usize,
+        ) -> u64;
+    }
+
+    pub fn run(seed: u64, case: Option<usize>) -> Result<Vec<String>, Failure> {
+        match case {
+            None => run_all(seed, rcds_reply),
+            Some(number) => run_one(seed, number, rcds_reply),
         }
     }
 }

@@ -2,9 +2,9 @@
 
 mod cases;
 mod compare;
-mod damage;
+pub(crate) mod damage;
 mod report;
-mod valid;
+pub(crate) mod valid;
 
 #[cfg(test)]
 mod faults;
