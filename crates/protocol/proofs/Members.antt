@@ -20,11 +20,6 @@ module _ {A : Type 0} where
   some-either P [] ys h = inr h
   some-either P (x ∷ xs) ys h = ⊎-elim (λ p. inl (inl p)) (λ t. ⊎-elim (λ g. inl (inr g)) (λ g. inr g) (some-either P xs ys t)) h
 
-  pub some-map : {P Q : A → Type 0} (xs : List A) → ((x : A) → P x → Q x) → Some P xs → Some Q xs
-  unfolding Some
-  some-map [] f h = h
-  some-map (x ∷ xs) f h = ⊎-elim (λ p. inl (f x p)) (λ t. inr (some-map xs f t)) h
-
   pub every-map : {P Q : A → Type 0} (xs : List A) → ((x : A) → P x → Q x) → Every P xs → Every Q xs
   unfolding Every
   every-map [] f h = tt

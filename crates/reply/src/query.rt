@@ -1,6 +1,6 @@
 // What a message that was read asks of a sender.
 ghost use mathlib.Core.Path.{_≡_};
-ghost use Rattle.reply.specs.Parts.{queryOf};
+ghost use Rattle.reply.specs.Parts.{query, queryOf};
 use message::Message;
 
 // Kind 1 asks for the opening and 2 for a node; else the kind is the number of the question that refuses the message.
@@ -11,17 +11,24 @@ pub struct Query {
     pub id: u64,
 }
 
+// A message that question `kind` refuses.
+fn refused(kind: u64) -> Query
+    ensures { λ r. ⌜ r ≡ query kind 0 0 0 ⌝ }
+{
+    Query {
+        kind,
+        session: 0,
+        level: 0,
+        id: 0,
+    }
+}
+
 // What the answer of the reader asks.
 pub fn query_of(m: Message) -> Query
     ensures { λ r. ⌜ r ≡ queryOf m ⌝ }
 {
     match m {
-        Message::Bad => Query {
-            kind: 10,
-            session: 0,
-            level: 0,
-            id: 0,
-        },
+        Message::Bad => refused(10),
         Message::OpeningQuery { session } => Query {
             kind: 1,
             session,
@@ -34,29 +41,9 @@ pub fn query_of(m: Message) -> Query
             level,
             id,
         },
-        Message::Opening { .. } => Query {
-            kind: 11,
-            session: 0,
-            level: 0,
-            id: 0,
-        },
-        Message::Composition { .. } => Query {
-            kind: 11,
-            session: 0,
-            level: 0,
-            id: 0,
-        },
-        Message::Literal { .. } => Query {
-            kind: 11,
-            session: 0,
-            level: 0,
-            id: 0,
-        },
-        Message::NoNode { .. } => Query {
-            kind: 11,
-            session: 0,
-            level: 0,
-            id: 0,
-        },
+        Message::Opening { .. } => refused(11),
+        Message::Composition { .. } => refused(11),
+        Message::Literal { .. } => refused(11),
+        Message::NoNode { .. } => refused(11),
     }
 }

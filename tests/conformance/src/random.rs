@@ -2,10 +2,32 @@
 
 /// The place of a number among `count` places, each of which is taken once: neighbours come to
 /// stand far from each other.
-pub fn mixed(number: usize, count: usize) -> usize {
+fn mixed(number: usize, count: usize) -> usize {
     const PRIME: usize = 15_485_863;
     assert!(count % PRIME != 0 && number < count);
     number * (PRIME % count) % count
+}
+
+/// How many cases families have together.
+pub fn together<F>(families: impl IntoIterator<Item = (F, usize)>) -> usize {
+    families.into_iter().map(|(_, count)| count).sum()
+}
+
+/// The family of a case, and its place in that family. The families are mixed, so that each of them
+/// comes early in a run.
+pub fn family_of<F>(
+    families: impl IntoIterator<Item = (F, usize)> + Clone,
+    number: usize,
+) -> (F, usize) {
+    let all = together(families.clone());
+    let mut place = mixed(number, all);
+    for (family, count) in families {
+        if place < count {
+            return (family, place);
+        }
+        place -= count;
+    }
+    panic!("a run has {all} cases");
 }
 
 /// The generator's state.

@@ -4,7 +4,7 @@
 use super::damage::{damaged, Damage};
 use super::valid::{message, Sizes, LARGE, MEGABYTE, SMALL};
 use crate::failure::first_bytes;
-use crate::random::{mixed, Random};
+use crate::random::{family_of, together, Random};
 use reference::message::encode;
 use std::fmt;
 
@@ -92,26 +92,20 @@ pub fn families() -> impl Iterator<Item = Family> {
 
 /// How many cases a run has.
 pub fn count() -> usize {
-    FAMILIES.iter().map(|(_, count)| count).sum()
+    together(FAMILIES)
 }
 
-/// The case of this number. The families are mixed, so that each of them comes early in a run.
+/// The case of this number.
 pub fn case(seed: u64, number: usize) -> Case {
-    let mut place = mixed(number, count());
-    for (family, count) in FAMILIES {
-        if place < count {
-            let mut random = Random::of_case(seed, number);
-            return Case {
-                seed,
-                number,
-                family,
-                message: family_message(family, place, &mut random),
-                shift: random.between(0, 15) as usize,
-            };
-        }
-        place -= count;
+    let (family, place) = family_of(FAMILIES, number);
+    let mut random = Random::of_case(seed, number);
+    Case {
+        seed,
+        number,
+        family,
+        message: family_message(family, place, &mut random),
+        shift: random.between(0, 15) as usize,
     }
-    panic!("a run has {} cases", count());
 }
 
 fn family_message(family: Family, place: usize, random: &mut Random) -> Vec<u8> {

@@ -8,7 +8,7 @@ use super::lists::{
     cells, count as any_count, difference, list, of_strings, shingle, shuffled, some_of, MINUS,
 };
 use crate::failure::first_bytes;
-use crate::random::{mixed, Random};
+use crate::random::{family_of, together, Random};
 use reference::cell_table;
 use reference::opening::takings;
 use reference::shingle::Shingle;
@@ -107,7 +107,7 @@ const EACH_FORGERY: usize = 350;
 const EACH_ODDITY: usize = 400;
 
 /// All families, and how many cases each has.
-pub fn families() -> impl Iterator<Item = (Family, usize)> {
+pub fn families() -> impl Iterator<Item = (Family, usize)> + Clone {
     let forged = FORGERIES.map(|forgery| (Family::Forged(forgery), EACH_FORGERY));
     let odd = ODDITIES.map(|oddity| (Family::Odd(oddity), EACH_ODDITY));
     FAMILIES.into_iter().chain(forged).chain(odd)
@@ -115,20 +115,14 @@ pub fn families() -> impl Iterator<Item = (Family, usize)> {
 
 /// How many cases a run has.
 pub fn count() -> usize {
-    families().map(|(_, count)| count).sum()
+    together(families())
 }
 
-/// The case of this number. The families are mixed, so that each of them comes early in a run.
+/// The case of this number.
 pub fn case(seed: u64, number: usize) -> Case {
-    let mut place = mixed(number, count());
-    for (family, count) in families() {
-        if place < count {
-            let mut random = Random::of_case(seed, number);
-            return lent(family, place, seed, number, &mut random);
-        }
-        place -= count;
-    }
-    panic!("a run has {} cases", count());
+    let (family, place) = family_of(families(), number);
+    let mut random = Random::of_case(seed, number);
+    lent(family, place, seed, number, &mut random)
 }
 
 /// What is lent, before it is bytes: the own list, and what the sender's cells have more.

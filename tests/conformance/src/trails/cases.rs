@@ -6,7 +6,7 @@
 
 use super::orders::*;
 use crate::failure::first_bytes;
-use crate::random::{mixed, Random};
+use crate::random::{family_of, together, Random};
 use reference::trail::{multiset, pairs, trail, Multiset};
 use std::fmt;
 
@@ -127,25 +127,19 @@ pub fn families() -> impl Iterator<Item = Family> {
 
 /// How many cases a run has.
 pub fn count() -> usize {
-    FAMILIES.iter().map(|(_, count)| count).sum()
+    together(FAMILIES)
 }
 
-/// The case of this number. The families are mixed, so that each of them comes early in a run.
+/// The case of this number.
 pub fn case(seed: u64, number: usize) -> Case {
-    let mut place = mixed(number, count());
-    for (family, count) in FAMILIES {
-        if place < count {
-            let mut random = Random::of_case(seed, number);
-            return Case {
-                seed,
-                number,
-                family,
-                lent: lent(family, place, &mut random),
-            };
-        }
-        place -= count;
+    let (family, place) = family_of(FAMILIES, number);
+    let mut random = Random::of_case(seed, number);
+    Case {
+        seed,
+        number,
+        family,
+        lent: lent(family, place, &mut random),
     }
-    panic!("a run has {} cases", count());
 }
 
 fn bytes<'a>(rows: impl IntoIterator<Item = &'a u64>) -> Vec<u8> {

@@ -2,7 +2,7 @@
 
 use crate::content::{self, Content, KINDS};
 use crate::failure::first_bytes;
-use crate::random::{mixed, Random};
+use crate::random::{family_of, together, Random};
 use crate::settings::{
     any_allowed, any_length, edge_nominals, edge_settings, many_nodes, most_nodes, with_nominal,
     NOMINALS,
@@ -93,19 +93,13 @@ enum Family {
 
 /// How many cases a run has.
 pub fn count() -> usize {
-    FAMILIES.iter().map(|(_, count)| count).sum()
+    together(FAMILIES)
 }
 
-/// The case of this number. The families are mixed, so that each of them comes early in a run.
+/// The case of this number.
 pub fn case(seed: u64, number: usize) -> Case {
-    let mut place = mixed(number, count());
-    for (family, count) in FAMILIES {
-        if place < count {
-            return family_case(family, place, seed, number);
-        }
-        place -= count;
-    }
-    panic!("a run has {} cases", count());
+    let (family, place) = family_of(FAMILIES, number);
+    family_case(family, place, seed, number)
 }
 
 fn family_case(family: Family, place: usize, seed: u64, number: usize) -> Case {
