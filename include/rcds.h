@@ -34,23 +34,40 @@
  *   6  string of at most RCDS_MAX_STRING bytes?
  *   7  what is lent long enough: node table of RCDS_NODES_BYTES bytes, shingle
  *      table of RCDS_SHINGLES_BYTES, cell table of RCDS_CELLS_BYTES(width),
- *      sender's state of RCDS_SENDER_STATE_BYTES? Asked of those that the call
- *      is lent.
+ *      at a setup the state of RCDS_SENDER_STATE_BYTES or
+ *      RCDS_RECEIVER_STATE_BYTES? Asked of those that the call is lent.
  *   8  tree of at most RCDS_MAX_NODES nodes?
+ *   9  session still running: not ended, at most RCDS_MAX_PENDING pending
+ *      nodes, none of them of a level above levels, and at least one after the
+ *      opening?
  *  10  message well formed: whole words, kinds, order, fixed bits, first part
  *      of a 64-bit value at most 255, cells as many as its q, reference counts
  *      1 to 32, no index twice, end right, nothing after it?
- *  11  message is a query: type 1 or 2?
+ *  11  sender: message is a query, type 1 or 2? Receiver: message is a reply,
+ *      type 3 to 6, of this session, to the outstanding query: an opening, or a
+ *      node reply of its level and id?
+ *  12  opening: its rule and settings are the own?
+ *  13  announced length at most RCDS_MAX_STRING and at most the output lent now?
  *  14  sketch opens?
- *  17  order: whole ids, 1 to RCDS_MAX_CHILDREN of them, none of them 0?
+ *  15  fewer than RCDS_MAX_NODES node replies taken before?
+ *  16  reply is not a none?
+ *  17  composition: node's level below levels, references in the shingle list at
+ *      the next level, counts within the list's, their sum 1 to
+ *      RCDS_MAX_CHILDREN, number at most RCDS_MAX_TRAIL_NUMBER, a trail of that
+ *      number, and pending nodes then at most RCDS_MAX_PENDING?
+ *      order: whole ids, 1 to RCDS_MAX_CHILDREN of them, none of them 0?
  *      multiset: whole entries, at most RCDS_MAX_CHILDREN of them, counts that
  *      add up to 1 to RCDS_MAX_CHILDREN, number at most RCDS_MAX_TRAIL_NUMBER,
  *      and a trail of that number?
+ *  18  output within the announced length?
+ *  19  nothing pending any more: length right, and id of the output's first
+ *      bytes, worked out afresh, right?
  *  20  room for what is written?
  *
- * A sender's reply asks 1 to 7 again, of the settings that its state holds and
- * of what it is lent. What a state lacks reads as 0, so one that is too short is
- * refused by 1 to 5, the first setting that it lacks.
+ * Every call after a setup asks 1 to 7 again, of the settings that its state
+ * holds and of what it is lent. What a sender's state lacks reads as 0, so one
+ * that is too short is refused by 1 to 5, the first setting that it lacks. A
+ * receiver's state that is too short is refused by 1.
  */
 #ifndef RCDS_H
 #define RCDS_H
@@ -109,6 +126,15 @@ extern "C" {
 
 /* The bytes that a sender's state needs. */
 #define RCDS_SENDER_STATE_BYTES 40
+
+/* The bytes that a receiver's state needs. */
+#define RCDS_RECEIVER_STATE_BYTES 2144
+
+/* The most nodes that a receiver may have pending. */
+#define RCDS_MAX_PENDING 128
+
+/* The bytes that are always enough for a receiver's query. */
+#define RCDS_QUERY_BYTES 24
 
 /*
  * Whether the answer r says that the call was accepted: r is 0, or at least
@@ -342,6 +368,106 @@ uint64_t rcds_reply(const uint8_t *state, size_t state_len,
                     const uint8_t *cells, size_t cells_len,
                     const uint8_t *message, size_t message_len,
                     uint8_t *out, size_t out_len);
+
+/*
+ * rcds_receiver_setup - set a receiver up for its own string.
+ *
+ * w, p, levels, nominal, width
+ *              as for rcds_sender_setup. Both ends need the same.
+ * session      session number; its lowest 24 bits are used.
+ * own          the receiver's own string, own_len bytes. Not changed.
+ * nodes, shingles, cells
+ *              the three tables.
+ * state        the receiver's state, state_len bytes.
+ *
+ * What the tables and the state hold before the call does not matter.
+ *
+ * Asks 1 to 8, in this order. 7 is asked of all three tables and of the state
+ * before anything is written.
+ *
+ * Accepted: RCDS_COUNT of the answer is the number of nodes. The tables are as
+ * after rcds_sender_setup. The first RCDS_RECEIVER_STATE_BYTES bytes of the
+ * state are those of a new session, and the bytes after them are unchanged.
+ *
+ * Refused by 1 to 7: tables and state are unchanged. Refused by 8: every lent
+ * byte of the three tables is zero, and the state is unchanged.
+ */
+uint64_t rcds_receiver_setup(uint64_t w, uint64_t p, uint64_t levels,
+                             uint64_t nominal, uint64_t width,
+                             uint64_t session,
+                             const uint8_t *own, size_t own_len,
+                             uint8_t *nodes, size_t nodes_len,
+                             uint8_t *shingles, size_t shingles_len,
+                             uint8_t *cells, size_t cells_len,
+                             uint8_t *state, size_t state_len);
+
+/*
+ * rcds_query - a receiver's outstanding query.
+ *
+ * state        the receiver's state. Not changed.
+ * own, nodes, shingles, cells
+ *              the own string, and the tables as the last call left them. Not
+ *              changed.
+ * out          what the query is written to, out_len bytes. RCDS_QUERY_BYTES
+ *              are enough.
+ *
+ * While no opening is taken the query asks for the opening, then for the node on
+ * top of the pile of pending nodes. It may be written as often as it is wanted.
+ *
+ * Asks 1 to 7, 9, 20, in this order.
+ *
+ * Accepted: RCDS_COUNT of the answer is the number of bytes written, from the
+ * start of out. The bytes after them are unchanged.
+ *
+ * Refused: out is unchanged.
+ */
+uint64_t rcds_query(const uint8_t *state, size_t state_len,
+                    const uint8_t *own, size_t own_len,
+                    const uint8_t *nodes, size_t nodes_len,
+                    const uint8_t *shingles, size_t shingles_len,
+                    const uint8_t *cells, size_t cells_len,
+                    uint8_t *out, size_t out_len);
+
+/*
+ * rcds_take - take a message.
+ *
+ * state        the receiver's state, as its setup or the last call left it.
+ * own, nodes, cells
+ *              the own string, and the tables that the setup left. Not changed.
+ * shingles     the shingle table: the own list until an opening is taken, then
+ *              the sender's.
+ * message      the message, message_len bytes, and nothing else. Not changed.
+ * output       where the sender's string is built, output_len bytes. The same
+ *              content is lent again to the next call.
+ *
+ * An opening that is accepted puts the root on the pile; a composition replaces
+ * the node on top by its children; a literal's bytes go to the end of what is
+ * built, and its node leaves the pile. Then, as long as the node on top has the
+ * id of an own node, that node's bytes are copied from the own string and it
+ * leaves the pile. When the pile is empty the string is handed over.
+ *
+ * Asks 1 to 7, 9, 10, 11, then 12 to 19, in this order: 12 and 14 of an opening,
+ * 15 to 17 of a node reply, the others of both.
+ *
+ * Accepted with answer 0: the session goes on, and the query is a new one.
+ *
+ * Accepted with an answer from 2^32 on: the sender's string is handed over. It
+ * stands at the start of output, RCDS_COUNT of the answer is its length, which
+ * may be 0, and the session has ended. The bytes after it are unchanged.
+ *
+ * Refused by 1 to 11: nothing is changed. Refused by 12 to 19: the session has
+ * ended, every lent byte of output is zero, and the shingle table is unchanged.
+ *
+ * What stands in the state at places of the pile that are not in use is not
+ * promised. The bytes after the first RCDS_RECEIVER_STATE_BYTES are unchanged.
+ */
+uint64_t rcds_take(uint8_t *state, size_t state_len,
+                   const uint8_t *own, size_t own_len,
+                   const uint8_t *nodes, size_t nodes_len,
+                   uint8_t *shingles, size_t shingles_len,
+                   const uint8_t *cells, size_t cells_len,
+                   const uint8_t *message, size_t message_len,
+                   uint8_t *output, size_t output_len);
 
 /*
  * rcds_sketch_open - open a sketch over the own shingle list.

@@ -14,8 +14,8 @@ use Rattle.entries.proofs.Entries.{length-table, put-length}
 use Rattle.shingle.specs.declared.Shingle.{Shingle}
 use Rattle.shingle.specs.Table.{entryOf, shingleOf, shinglesIn, holds}
 use Rattle.sketch.specs.Opening.{kept}
+use Rattle.pairs.proofs.Reading.{here, list-long}
 use Rattle.opening.specs.Steps.{Kept, Appended}
-use Rattle.opening.proofs.Scanning.{here, list-long}
 
 pub record Counting (gone own : List Shingle) (n found k : ℕ) : Type 0 where
   pub size : n ≡ length own

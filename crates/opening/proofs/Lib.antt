@@ -3,8 +3,7 @@ pub mod Scanning
 pub mod Keeping
 pub mod Sorting
 pub mod Outcome
-pub mod Twice
-pub mod Ascending
+pub mod Apart
 pub mod Passing
 pub mod Verdict
 pub mod Ladder

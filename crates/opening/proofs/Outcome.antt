@@ -18,9 +18,9 @@ use Rattle.shingle.specs.declared.Shingle.{Shingle}
 use Rattle.shingle.specs.Table.{entryOf, shinglesIn, holds}
 use Rattle.shingle.proofs.Written.{written-list}
 use Rattle.sketch.specs.Opening.{kept, before, renewed}
+use Rattle.pairs.proofs.Reading.{list-long}
 use Rattle.opening.specs.Renewing.{listOf, renewAnswer, renewTable, Renewed}
 use Rattle.opening.specs.Steps.{Kept, Appended}
-use Rattle.opening.proofs.Scanning.{list-long}
 use Rattle.opening.proofs.Sorting.{sort-entries, counts-sort, counts-all}
 
 kept-few : (gone ss : List Shingle) → length (kept gone ss) ≤ length ss

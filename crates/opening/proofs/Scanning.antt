@@ -1,38 +1,18 @@
--- Reading the list of a shingle table from the front: one shingle and those after it, a test that passes over it, and its end.
+-- Reading the list of a shingle table from the front: a test that passes over one shingle after the other, and the list's end.
 use mathlib.Core.Bool.{Bool, true, false, cond}
 use mathlib.Core.List.{List, [], _∷_, _++_}
 use mathlib.Core.Path.{_≡_, refl, sym, ap, _∙_}
-use Prim.Native.Nat.{ℕ, zero, suc, _+_, _*_, _-_, _/_, _%_, _≤_, _<_}
-use native.Mathlib.Numerals.{add-one}
+use Prim.Native.Nat.{ℕ, zero, suc, _+_, _*_, _-_, _%_, _≤_, _<_}
 use native.Mathlib.Omega.{arith}
 use lib.Dec.{eqb}
 use lib.ListN.{length, take, drop, length-drop, drop-of-length-le, take-append-drop}
-use lib.Seq.{drop-cons, drop-at, take-all, length-take-le}
+use lib.Seq.{drop-at, take-all, length-take-le}
 use Rattle.entries.specs.declared.Entry.{Entry}
-use Rattle.entries.specs.Entries.{blank, tableOf}
+use Rattle.entries.specs.Entries.{tableOf}
 use Rattle.entries.proofs.Entries.{length-table, table-append}
 use Rattle.shingle.specs.declared.Shingle.{Shingle}
 use Rattle.shingle.specs.Table.{shingleOf, shingleAt, shinglesFrom, shinglesIn}
-use Rattle.shingle.proofs.Reading.{listed-at}
-
--- Shingle k of the list, and the list after it.
-pub here : (t : List ℕ) (k : ℕ) (s : Shingle) → s ≡ shingleAt t k → k < length (shinglesIn t)
-    → drop k (shinglesIn t) ≡ s ∷ drop (k + 1) (shinglesIn t)
-here t k s is h = drop-cons (shinglesIn t) k (shingleOf blank) h ∙ rw (add-one, listed-at t k h, ← is)
-
--- A list is not longer than its table.
-from-long : (l : List Entry) → length (shinglesFrom l) ≤ length l
-unfolding shinglesFrom
-from-long [] = omega arith
-from-long (e ∷ l) = go (eqb (e .tail % 65536) 0) (from-long l)
-  where
-    go : (t : Bool) → length (shinglesFrom l) ≤ length l → length (cond t [] (shingleOf e ∷ shinglesFrom l)) ≤ suc (length l)
-    go true h = omega arith
-    go false h = omega arith
-
-pub list-long : (t : List ℕ) → length (shinglesIn t) ≤ length t / 24
-unfolding shinglesIn
-list-long t = omega (arith, from-long (tableOf t), length-table t)
+use Rattle.pairs.proofs.Reading.{here, from-long, list-long}
 
 pub list-room : (t : List ℕ) (n : ℕ) → n ≡ length (shinglesIn t) → n * 24 ≤ length t
 list-room t n e = omega (arith, list-long t)

@@ -2,42 +2,21 @@
 use mathlib.Core.Bool.{Bool, true, false, cond}
 use mathlib.Core.List.{List, [], _∷_, _++_, map}
 use mathlib.Core.Path.{_≡_, refl, sym, ap, _∙_}
-use Prim.Native.Nat.{ℕ, _/_, _%_}
+use Prim.Native.Nat.{ℕ, _%_}
 use native.Mathlib.Omega.{arith}
-use native.Mathlib.Decide.{decLt}
-use borrow.Author.Tests.{lt-ltb, le-ltb, eqb-false}
-use lib.Dec.{ltb, eqb}
+use borrow.Author.Tests.{eqb-false}
+use lib.Dec.{eqb}
 use Rattle.entries.specs.declared.Entry.{Entry}
 use Rattle.entries.specs.Entries.{tableOf}
 use Rattle.entries.specs.Order.{precedes}
-use Rattle.entries.proofs.Order.{Keys, ahead, alike, behind, keys, earlier-alike}
 use Rattle.sort.specs.Sort.{insertOf, sortOf}
-use Rattle.sort.proofs.Ordered.{sort-map}
 use Rattle.shingle.specs.declared.Shingle.{Shingle}
 use Rattle.shingle.specs.Table.{entryOf, shingleOf, shinglesFrom, shinglesIn, holds}
 use Rattle.shingle.proofs.Counts.{Counts, none, more}
 use Rattle.shingle.proofs.Written.{entry-back}
 use Rattle.sketch.specs.Opening.{kept, before}
+use Rattle.pairs.proofs.Alike.{sort-shingles}
 use Rattle.opening.proofs.Keeping.{entry-again}
-
--- Of entries of one level, the tails are ordered as the counts.
-counts-tails : (x y : ℕ) → x / 65536 ≡ y / 65536 → ltb (x % 65536) (y % 65536) ≡ ltb x y
-counts-tails x y e =
-    elim (decLt x y) [
-      | yes h ↦ lt-ltb (x % 65536) (y % 65536) (omega arith) ∙ sym (lt-ltb x y h)
-      | no h ↦ le-ltb (x % 65536) (y % 65536) (omega arith) ∙ sym (le-ltb x y (omega arith))
-    ]
-
-before-keys : (a b : Entry) → Keys (a .tail / 65536) (a .previous) (a .own) (b .tail / 65536) (b .previous) (b .own)
-    → before (shingleOf a) (shingleOf b) ≡ precedes a b
-unfolding before precedes
-before-keys a b (ahead e f) = e _ ∙ sym (e _)
-before-keys a b (alike e f g) =
-    earlier-alike _ _ _ _ _ _ _ e f g ∙ (counts-tails (a .tail) (b .tail) e ∙ sym (earlier-alike _ _ _ _ _ _ _ e f g))
-before-keys a b (behind e f) = f _ ∙ sym (f _)
-
-before-precedes : (a b : Entry) → before (shingleOf a) (shingleOf b) ≡ precedes a b
-before-precedes a b = before-keys a b (keys _ _ _ _ _ _)
 
 entries-again : (l : List Entry) → map entryOf (map shingleOf l) ≡ l
 entries-again [] = refl
@@ -52,7 +31,7 @@ pub sort-entries : (ss : List Shingle) → Counts 65535 ss → sortOf precedes (
 sort-entries ss c =
     let es = map entryOf ss in
     sym (ap (λ (l : List Shingle). map entryOf (sortOf before l)) (sym (shingles-again c))
-    ∙ (ap (map entryOf) (sort-map precedes before shingleOf before-precedes es) ∙ entries-again (sortOf precedes es)))
+    ∙ (ap (map entryOf) (sort-shingles es) ∙ entries-again (sortOf precedes es)))
 
 -- Counts.
 counts-from : (l : List Entry) → Counts 65535 (shinglesFrom l)

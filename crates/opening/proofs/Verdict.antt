@@ -2,36 +2,24 @@
 use mathlib.Core.Bool.{Bool, true, false, cond, not, _&&_, _||_}
 use mathlib.Core.List.{List, [], _∷_, _++_}
 use mathlib.Core.Path.{_≡_, refl, sym, ap, ap₂, _∙_}
-use Prim.Native.Nat.{ℕ, _+_, _≤_, _<_}
-use borrow.Author.Tests.{le-leb, lt-leb}
+use Prim.Native.Nat.{ℕ, _+_}
 use lib.Dec.{leb}
 use lib.ListN.{length}
 use Rattle.entries.proofs.Linear.{both}
 use Rattle.shingle.specs.declared.Shingle.{Shingle}
-use Rattle.shingle.specs.Shingles.{pairOf}
 use Rattle.shingle.specs.Table.{agree, holds}
-use Rattle.shingle.specs.Rising.{samePair}
 use Rattle.shingle.proofs.Agreement.{agree-true}
-use Rattle.shingle.proofs.PairOrder.{and-true, same-equal}
+use Rattle.shingle.proofs.PairOrder.{and-true}
 use Rattle.sketch.specs.Opening.{Signed, Peeled, positives, negatives, shinglesOf, noneTwice, allIn, noneIn}
-use Rattle.sketch.specs.Opening.{kept, renewed, newList, pairIn, noPairTwice, allZero, opensTo}
-use Rattle.sketch.proofs.NewList.{or-swap, or-assoc, or-right, and-not, not-true}
-use Rattle.opening.specs.Steps.{noPairIn, opensWith}
+use Rattle.sketch.specs.Opening.{kept, renewed, newList, noPairTwice, allZero, opensTo}
+use Rattle.sketch.proofs.NewList.{or-swap, or-assoc, and-not, not-true}
+use Rattle.pairs.specs.Once.{fewOnce}
+use Rattle.pairs.proofs.Twice.{twice-sort}
+use Rattle.opening.specs.Steps.{opensWith}
 use Rattle.opening.proofs.Outcome.{renewed-length}
-use Rattle.opening.proofs.Twice.{twice-append, twice-sort}
+use Rattle.opening.proofs.Apart.{all-own, once-pairs, later-once, none-gone}
 
--- What is in a list of which all, or none, is in the own list.
-all-own : (own ss : List Shingle) (x : Shingle) → allIn own ss ≡ true → holds x ss ≡ true → holds x own ≡ true
-unfolding allIn holds
-all-own own [] x a h = absurd (both h refl)
-all-own own (s ∷ ss) x a h =
-    let tests = and-true (holds s own) (allIn own ss) a in
-    go (agree x s) refl h (tests .0) (all-own own ss x (tests .1))
-  where
-    go : (t : Bool) → agree x s ≡ t → (t || holds x ss) ≡ true → holds s own ≡ true → (holds x ss ≡ true → holds x own ≡ true) → holds x own ≡ true
-    go true e f here rest = ap (λ (y : Shingle). holds y own) (agree-true x s e) ∙ here
-    go false e f here rest = rest f
-
+-- What is in a list of which none is in the own list.
 none-own : (own ss : List Shingle) (x : Shingle) → noneIn own ss ≡ true → holds x ss ≡ true → holds x own ≡ false
 unfolding noneIn holds
 none-own own [] x a h = absurd (both h refl)
@@ -114,28 +102,6 @@ signs-apart own (z ∷ zs) a b = go (z .negative) a b (λ i o. signs-apart own z
         ap₂ (λ (t u : Bool). not t && u) here (rest a (tests .1))
         ∙ and-assoc (not (holds (z .shingle) (positives zs))) (noneTwice (positives zs)) (noneTwice (negatives zs))
 
--- A list with no pair twice has no shingle twice.
-holds-pair : (s : Shingle) (ss : List Shingle) → holds s ss ≡ true → pairIn s ss ≡ true
-unfolding holds pairIn
-holds-pair s [] h = h
-holds-pair s (x ∷ ss) h = go (agree s x) refl h (holds-pair s ss)
-  where
-    go : (t : Bool) → agree s x ≡ t → (t || holds s ss) ≡ true → (holds s ss ≡ true → pairIn s ss ≡ true)
-        → (samePair (pairOf s) (pairOf x) || pairIn s ss) ≡ true
-    go true e f rest = rw (same-equal (pairOf s) (pairOf x) (ap pairOf (agree-true s x e)))
-    go false e f rest = or-right (samePair (pairOf s) (pairOf x)) (rest f)
-
-once-pairs : (ss : List Shingle) → noPairTwice ss ≡ true → noneTwice ss ≡ true
-unfolding noPairTwice noneTwice
-once-pairs [] h = refl
-once-pairs (s ∷ ss) h =
-    let tests = and-true (not (pairIn s ss)) (noPairTwice ss) h in
-    go (holds s ss) refl (not-true (pairIn s ss) (tests .0)) (once-pairs ss (tests .1))
-  where
-    go : (t : Bool) → holds s ss ≡ t → pairIn s ss ≡ false → noneTwice ss ≡ true → (not t && noneTwice ss) ≡ true
-    go true e f rest = absurd (both (holds-pair s ss e) f)
-    go false e f rest = rest
-
 -- The second test counts only where the others hold.
 one-test : (a t t′ i o l q : Bool) → (i ≡ true → o ≡ true → q ≡ true → t ≡ t′)
     → (a && (t && (i && (o && (l && q))))) ≡ (a && (t′ && (i && (o && (l && q)))))
@@ -146,9 +112,18 @@ one-test a t t′ true true l false e =
 one-test a t t′ true false l q e = ap (λ (u : Bool). a && u) (and-not t ∙ sym (and-not t′))
 one-test a t t′ false o l q e = ap (λ (u : Bool). a && u) (and-not t ∙ sym (and-not t′))
 
+-- So does the fourth.
+other-test : (a t i o o′ l q : Bool) → (i ≡ true → q ≡ true → o ≡ o′)
+    → (a && (t && (i && (o && (l && q))))) ≡ (a && (t && (i && (o′ && (l && q)))))
+other-test a t true o o′ l true e = ap (λ (u : Bool). a && (t && (u && (l && true)))) (e refl refl)
+other-test a t true o o′ l false e =
+    ap (λ (u : Bool). a && (t && (o && u))) (and-not l)
+    ∙ (ap (λ (u : Bool). a && (t && u)) (and-not o ∙ sym (and-not o′)) ∙ ap (λ (u : Bool). a && (t && (o′ && u))) (sym (and-not l)))
+other-test a t false o o′ l q e = refl
+
 -- The sketch opens exactly when the tests with each sign apart say so.
 pub opens-apart : (own : List Shingle) (p : Peeled) → opensTo own p ≡ opensWith (allZero (p .left)) (positives (p .taken)) (negatives (p .taken)) own
-unfolding opensTo opensWith newList renewed
+unfolding opensTo opensWith fewOnce newList renewed
 opens-apart own p =
     let zs = p .taken in
     let new = positives zs in
@@ -157,11 +132,10 @@ opens-apart own p =
     let few = leb (length (kept gone own) + length new) 4096 in
     let size : leb (length (renewed own gone new)) 4096 ≡ few = ap (λ (n : ℕ). leb n 4096) (renewed-length own gone new) in
     ap₂ (λ (l q : Bool). allZero (p .left) && (noneTwice (shinglesOf zs) && (allIn own gone && (noneIn own new && (l && q))))) size (twice-sort all)
-    ∙ one-test (allZero (p .left)) (noneTwice (shinglesOf zs)) (noneTwice gone) (allIn own gone) (noneIn own new) few (noPairTwice all)
-    (λ i o q.
-    let parts = and-true (noPairTwice (kept gone own)) (noPairTwice new && noPairIn (kept gone own) new) (sym (twice-append (kept gone own) new) ∙ q) in
-    let fresh = once-pairs new (and-true (noPairTwice new) (noPairIn (kept gone own) new) (parts .1) .0) in
-    signs-apart own zs i o ∙ ap (λ (t : Bool). t && noneTwice gone) fresh)
+    ∙ (one-test (allZero (p .left)) (noneTwice (shinglesOf zs)) (noneTwice gone) (allIn own gone) (noneIn own new) few (noPairTwice all)
+    (λ i o q. signs-apart own zs i o ∙ ap (λ (t : Bool). t && noneTwice gone) (once-pairs new (later-once (kept gone own) new q)))
+    ∙ other-test (allZero (p .left)) (noneTwice gone) (allIn own gone) (noneIn own new) (noneIn gone new) few (noPairTwice all)
+    (λ i q. none-gone own gone new i q))
 
 -- One test that fails is enough; where the others hold, the last decides.
 module _ (empty : Bool) (new gone own : List Shingle) where
@@ -177,16 +151,11 @@ module _ (empty : Bool) (new gone own : List Shingle) where
   unfolding opensWith
   not-own e = rw (e, and-not (noneTwice gone), and-not empty)
 
-  pub own-already : noneIn own new ≡ false → false ≡ opensWith empty new gone own
+  pub also-gone : noneIn gone new ≡ false → false ≡ opensWith empty new gone own
   unfolding opensWith
-  own-already e = rw (e, and-not (allIn own gone), and-not (noneTwice gone), and-not empty)
+  also-gone e = rw (e, and-not (allIn own gone), and-not (noneTwice gone), and-not empty)
 
-  pub too-many : 4096 < length (kept gone own) + length new → false ≡ opensWith empty new gone own
+  pub by-pairs : empty ≡ true → noneTwice gone ≡ true → allIn own gone ≡ true → noneIn gone new ≡ true
+      → (r : Bool) → r ≡ fewOnce new gone own → r ≡ opensWith empty new gone own
   unfolding opensWith
-  too-many h =
-      rw (lt-leb _ 4096 h, and-not (noneIn own new), and-not (allIn own gone), and-not (noneTwice gone), and-not empty)
-
-  pub by-pairs : empty ≡ true → noneTwice gone ≡ true → allIn own gone ≡ true → noneIn own new ≡ true
-      → length (kept gone own) + length new ≤ 4096 → (r : Bool) → r ≡ noPairTwice (kept gone own ++ new) → r ≡ opensWith empty new gone own
-  unfolding opensWith
-  by-pairs a b c d h r e = rw (a, b, c, d, le-leb _ 4096 h) e
+  by-pairs a b c d r e = rw (a, b, c, d) e

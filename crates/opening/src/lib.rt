@@ -1,6 +1,5 @@
 // Whether a sketch opens over the own shingle list, and the new list that an opened sketch leaves.
 mod list;
-mod pairs;
 mod question;
 mod taken;
 

@@ -40,15 +40,6 @@ fn count(gone: &[u8], table: &[u8]) -> usize
     found
 }
 
-// How many shingles the new list has.
-pub fn number(new: &[u8], gone: &[u8], table: &[u8]) -> usize
-    ensures { λ r. ⌜ r ≡ length (kept (shinglesIn (now (gone .entry))) (shinglesIn (now (table .entry)))) + length (shinglesIn (now (new .entry))) ⌝ }
-{
-    let old = count(gone, table);
-    let more = shingle::size(new);
-    old + more
-}
-
 // Moves the shingles of the table's list that are not gone to the table's front.
 fn keep(gone: &[u8], table: &mut [u8])
     ensures { λ _. ⌜ Kept (now (gone .entry)) (now (table .entry)) (now (table .exit)) ⌝ }

@@ -3,8 +3,6 @@ ghost use mathlib.Core.Path.{_≡_};
 ghost use Rattle.tree.specs.Questions.{ask};
 ghost use Rattle.shingle.specs.Table.{shinglesIn};
 ghost use Rattle.opening.specs.Steps.{sizeRefusal, opensWith};
-use super::list;
-use super::pairs;
 use super::taken;
 
 // Questions 3, 5 and 7, of the settings and of the lengths of what is lent.
@@ -36,7 +34,8 @@ pub fn sizes(levels: u64, width: u64, theirs: usize, own: usize, shingles: usize
     0
 }
 
-// Whether the sketch opens, from what was taken and whether all cells ended at 0.
+// Whether the sketch opens, from what was taken and whether all cells ended at 0. A positive shingle that is in the own list is among
+// the negative ones, or else it is kept and its pair comes twice.
 pub fn opens(empty: bool, new: &[u8], gone: &[u8], own: &[u8]) -> bool
     ensures { λ r. ⌜ r ≡ opensWith empty (shinglesIn (now (new .entry))) (shinglesIn (now (gone .entry))) (shinglesIn (now (own .entry))) ⌝ }
 {
@@ -49,10 +48,7 @@ pub fn opens(empty: bool, new: &[u8], gone: &[u8], own: &[u8]) -> bool
     if !taken::all_in(own, gone) {
         return false;
     }
-    if !taken::none_in(own, new) {
-        return false;
-    }
-    if list::number(new, gone, own) > 4096 {
+    if !taken::none_in(gone, new) {
         return false;
     }
     pairs::once(new, gone, own)

@@ -6,6 +6,9 @@ ghost use Rattle.message.specs.Messages.{parse};
 ghost use Rattle.message.specs.Reading.{typeAnswer};
 ghost use Rattle.reply.specs.Reply.{Replied};
 ghost use Rattle.sender.specs.State.{settingsIn, SenderSetUp};
+ghost use Rattle.state.specs.Bytes.{stateIn};
+ghost use Rattle.receiver.specs.Calls.{Asked};
+ghost use Rattle.held.specs.Held.{HeldSetUp, HeldTakes};
 ghost use Rattle.opening.specs.Opened.{Opened};
 ghost use Rattle.tree.specs.Table.{Tabled};
 ghost use Rattle.rcds.specs.Calls.{treeSettings, settingsOf};
@@ -135,6 +138,67 @@ pub extern "C" fn rcds_reply(
         (now (cells .entry)) (now (message .entry)) (now (out .entry)) (now (out .exit)) r ⌝ }
 {
     sender::reply(state, string, nodes, shingles, cells, message, out)
+}
+
+// Sets a receiver up: fills its three tables from its own string, and writes the state of a new session. Asked are 1 to 8.
+#[no_mangle]
+pub extern "C" fn rcds_receiver_setup(
+    window: u64,
+    fan_out: u64,
+    levels: u64,
+    nominal: u64,
+    width: u64,
+    session: u64,
+    own: &[u8],
+    nodes: &mut [u8],
+    shingles: &mut [u8],
+    cells: &mut [u8],
+    state: &mut [u8],
+) -> u64
+    ensures { λ r. ⌜ HeldSetUp (settingsOf window «fan_out» levels nominal width) session (now (own .entry)) (now (nodes .entry)) (now (nodes .exit))
+        (now (shingles .entry)) (now (shingles .exit)) (now (cells .entry)) (now (cells .exit)) (now (state .entry)) (now (state .exit)) r ⌝ }
+{
+    let settings = Settings {
+        window,
+        fan_out,
+        levels,
+        nominal,
+        width,
+    };
+    held::setup(settings, session, own, nodes, shingles, cells, state)
+}
+
+// Writes a receiver's outstanding query. Asked are 1 to 7, 9 and 20.
+#[no_mangle]
+pub extern "C" fn rcds_query(
+    state: &[u8],
+    own: &[u8],
+    nodes: &[u8],
+    shingles: &[u8],
+    cells: &[u8],
+    out: &mut [u8],
+) -> u64
+    ensures { λ r. ⌜ Asked (stateIn (now (state .entry))) (now (own .entry)) (now (nodes .entry)) (now (shingles .entry)) (now (cells .entry))
+        (now (out .entry)) (now (out .exit)) r ⌝ }
+{
+    held::query(state, own, nodes, shingles, cells, out)
+}
+
+// Takes a message. Asked are 1 to 7, 9 to 11, and 12 to 19.
+#[no_mangle]
+pub extern "C" fn rcds_take(
+    state: &mut [u8],
+    own: &[u8],
+    nodes: &[u8],
+    shingles: &mut [u8],
+    cells: &[u8],
+    message: &[u8],
+    output: &mut [u8],
+) -> u64
+    ensures { λ r. ⌜ HeldTakes (now (state .entry)) (now (state .exit)) (now (own .entry)) (now (nodes .entry)) (now (shingles .entry))
+        (now (shingles .exit)) (now (cells .entry)) (now (message .entry)) (now (output .entry)) (now (output .exit)) r ⌝ }
+{
+    held::take(state, own, nodes, shingles, cells, message, output)
 }
 
 // Opens a sketch over the own shingle list. Asked are 3, 5, 7 of the three tables, and 14.

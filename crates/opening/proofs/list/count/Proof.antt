@@ -4,7 +4,7 @@ use Prim.Native.Nat.{_-_}
 use native.Mathlib.Omega.{arith}
 use borrow.Author.Needs.{needs}
 use Rattle.shingle.specs.Table.{shinglesIn}
-use Rattle.opening.proofs.Scanning.{here}
+use Rattle.pairs.proofs.Reading.{here}
 use Rattle.opening.proofs.Keeping.{Counting, counting-start, counting-gone, counting-kept, counting-end}
 use Rattle.opening.proofs.list.count.Statement.{statement}
 use Rattle.opening.proofs.list.count.Tie as tie

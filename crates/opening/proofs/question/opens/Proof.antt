@@ -1,10 +1,9 @@
 -- The first test that fails, or else the last: the laws of `Verdict`.
 use mathlib.Core.Path.{sym, _∙_}
-use native.Mathlib.Omega.{arith}
 use borrow.Author.Needs.{needs}
 use Rattle.sketch.proofs.NewList.{not-true}
 use Rattle.opening.proofs.Passing.{not-false}
-use Rattle.opening.proofs.Verdict.{cells-left, taken-twice, not-own, own-already, too-many, by-pairs}
+use Rattle.opening.proofs.Verdict.{cells-left, taken-twice, not-own, also-gone, by-pairs}
 use Rattle.opening.proofs.question.opens.Statement.{statement}
 use Rattle.opening.proofs.question.opens.Tie as tie
 
@@ -27,27 +26,20 @@ none-in-requires : tie.Need-none-in-requires
 none-in-requires c κs = search needs
 
 returns-4 : tie.Need-returns-4
-returns-4 c = own-already _ _ _ _ (sym (c .before .none-in .ensures) ∙ not-true _ (c .if4 .taken))
-
-number-requires : tie.Need-number-requires
-number-requires c κs = search needs
-
-returns-5 : tie.Need-returns-5
-returns-5 c = too-many _ _ _ _ (omega (arith, c .before .number .ensures, c .if5 .taken))
+returns-4 c = also-gone _ _ _ _ (sym (c .before .none-in .ensures) ∙ not-true _ (c .if4 .taken))
 
 once-requires : tie.Need-once-requires
 once-requires c κs = search needs
 
-returns-6 : tie.Need-returns-6
-returns-6 c =
-    let five = c .before in
-    let four = five .before .before in
+returns-5 : tie.Need-returns-5
+returns-5 c =
+    let four = c .before in
     let three = four .before .before in
     let two = three .before .before in
     let one = two .before .before in
     by-pairs _ _ _ _ (not-false _ (one .if1 .left)) (sym (two .before .none-twice .ensures) ∙ not-false _ (two .if2 .left))
-    (sym (three .before .all-in .ensures) ∙ not-false _ (three .if3 .left)) (sym (four .before .none-in .ensures) ∙ not-false _ (four .if4 .left))
-    (omega (arith, five .before .number .ensures, five .if5 .left)) _ (c .once .ensures)
+    (sym (three .before .all-in .ensures) ∙ not-false _ (three .if3 .left)) (sym (four .before .none-in .ensures) ∙ not-false _ (four .if4 .left)) _
+    (c .once .ensures)
 
 pub opens-spec : {M : Type 1} → statement M
 opens-spec =
@@ -60,7 +52,5 @@ opens-spec =
     returns-3
     none-in-requires
     returns-4
-    number-requires
-    returns-5
     once-requires
-    returns-6)
+    returns-5)

@@ -1,0 +1,3 @@
+-- Laws of concluding.
+pub mod Concluding
+pub mod Outcomes

@@ -1,0 +1,2 @@
+-- What an accepted message comes to once copying has ended.
+pub mod Handover

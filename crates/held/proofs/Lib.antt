@@ -1,0 +1,2 @@
+-- Laws of a state in lent bytes.
+pub mod Outcome

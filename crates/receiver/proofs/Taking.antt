@@ -1,0 +1,137 @@
+-- Each way out of taking a message is a case of the definition; so are those of writing the query and of setting up.
+use mathlib.Core.Bool.{Bool, true, false, cond}
+use mathlib.Core.List.{List, []}
+use mathlib.Core.Option.{Option, none, some}
+use mathlib.Core.Path.{_≡_, refl, sym, ap, _∙_}
+use Prim.Native.Nat.{ℕ, _+_, _^_, _≤_, _<_}
+use native.Mathlib.Omega.{arith}
+use borrow.Author.Tests.{eq-eqb, ne-eqb}
+use lib.ListN.{length}
+use Rattle.tree.specs.declared.Settings.{Settings}
+use Rattle.tree.proofs.Questions.{granted}
+use Rattle.setup.specs.Questions.{tablesFit, lentRefusal, setupRefusal}
+use Rattle.setup.specs.Tables.{SetUp}
+use Rattle.setup.proofs.Questions.{lent as lent-passed}
+use Rattle.setup.proofs.Accepted.{yes-answer, no-answer}
+use Rattle.message.specs.Messages.{Msg, parse}
+use Rattle.protocol.specs.Lent.{Lent, lent, refusedBy}
+use Rattle.protocol.specs.State.{running, outstanding}
+use Rattle.protocol.specs.Receiver.{Result, numberOf, unchanged, matches, act, hear, takeMessage, querying, writeQuery}
+use Rattle.state.specs.declared.Receiver.{Receiver}
+use Rattle.state.specs.Receivers.{stateOf, Starts}
+use Rattle.state.specs.Asking.{Queried}
+use Rattle.receiver.specs.declared.Taken.{Taken}
+use Rattle.receiver.specs.Heard.{messageIn}
+use Rattle.receiver.specs.Steps.{OpeningTaken, NodeTaken}
+use Rattle.receiver.specs.Calls.{stateAfter, ReceiverSetUp, Takes, Asked}
+
+abbrev taking : ℕ → Receiver → Taken
+taking answer state = record { answer = answer; state = state }
+
+-- 3 is among the questions that were passed.
+pub few-levels : (σ : Settings) (size nodes shingles cells : ℕ) → lentRefusal σ size (tablesFit (σ .width) nodes shingles cells) ≡ 0 → σ .levels ≤ 4
+few-levels σ size nodes shingles cells seven =
+    granted σ size (lent-passed σ size nodes shingles cells true seven .1 .settings) .0 .levels-high
+
+module _ (s : Receiver) (string nodes shingles cells message output : List ℕ) where
+  -- A no that changes nothing.
+  kept-by : (k : ℕ) → takeMessage (stateOf s) (lent string nodes shingles cells output) message ≡ unchanged k (stateOf s) (lent string nodes shingles cells output)
+      → Takes s string nodes shingles shingles cells message output output (taking k s)
+  unfolding unchanged numberOf
+  kept-by k e =
+      record {
+        gives = record {
+          answer = sym (ap (λ (R : Result). numberOf (R .answer)) e);
+          state = sym (ap (λ (R : Result). R .state) e);
+          memory = ap (λ (R : Result). R .lent) e;
+        };
+        kept = λ above small. refl;
+      }
+
+  pub take-seven : {k : ℕ} → k ≡ refusedBy (s .settings) (lent string nodes shingles cells output) → (k ≡ 0 → ⊥)
+      → Takes s string nodes shingles shingles cells message output output (taking k s)
+  unfolding takeMessage stateOf
+  take-seven {k = k} asked fails = kept-by k (rw (← asked, ne-eqb k 0 fails) refl)
+
+  module _ (seven : refusedBy (s .settings) (lent string nodes shingles cells output) ≡ 0) where
+    pub take-nine : running (stateOf s) ≡ false → Takes s string nodes shingles shingles cells message output output (taking 9 s)
+    unfolding takeMessage stateOf
+    take-nine stopped = kept-by 9 (rw (eq-eqb _ 0 seven, stopped) refl)
+
+    module _ (runs : running (stateOf s) ≡ true) where
+      heard-is : takeMessage (stateOf s) (lent string nodes shingles cells output) message
+          ≡ hear (stateOf s) (lent string nodes shingles cells output) (parse message)
+      unfolding takeMessage stateOf
+      heard-is = rw (eq-eqb _ 0 seven, runs) refl
+
+      pub take-ten : parse message ≡ none → Takes s string nodes shingles shingles cells message output output (taking 10 s)
+      unfolding hear
+      take-ten bad = kept-by 10 (heard-is ∙ ap (hear (stateOf s) (lent string nodes shingles cells output)) bad)
+
+      module _ (formed : parse message ≡ some (messageIn message)) where
+        pub take-eleven : matches (outstanding (stateOf s)) (messageIn message) ≡ false
+            → Takes s string nodes shingles shingles cells message output output (taking 11 s)
+        unfolding hear
+        take-eleven other =
+            kept-by 11 (heard-is ∙ (ap (hear (stateOf s) (lent string nodes shingles cells output)) formed ∙ rw other refl))
+
+        module _ (fits : matches (outstanding (stateOf s)) (messageIn message) ≡ true) where
+          acted : takeMessage (stateOf s) (lent string nodes shingles cells output) message
+              ≡ act (stateOf s) (lent string nodes shingles cells output) (messageIn message)
+          unfolding hear
+          acted = heard-is ∙ (ap (hear (stateOf s) (lent string nodes shingles cells output)) formed ∙ rw fits refl)
+
+          pub take-opening : {shingles′ output′ : List ℕ} {r : Taken}
+              → OpeningTaken s string nodes shingles shingles′ cells message output output′ r
+              → Takes s string nodes shingles shingles′ cells message output output′ r
+          take-opening t =
+              record {
+                gives = rw acted (t .gives);
+                kept = λ above small. absurd (omega (arith, t .apart above, small));
+              }
+
+          pub take-node : {output′ : List ℕ} {r : Taken} → NodeTaken s string nodes shingles message output output′ r
+              → Takes s string nodes shingles shingles cells message output output′ r
+          take-node t =
+              record {
+                gives = rw acted (t .gives cells);
+                kept = λ above small. absurd (omega (arith, t .apart above, small));
+              }
+
+-- Writing the query.
+module _ (s : Receiver) (string nodes shingles cells before : List ℕ) {k : ℕ} (asked : k ≡ refusedBy (s .settings) (lent string nodes shingles cells [])) where
+  pub query-no : (k ≡ 0 → ⊥) → Asked s string nodes shingles cells before before k
+  unfolding writeQuery stateOf
+  query-no fails =
+      record {
+        answer-is = λ output. rw (← asked, ne-eqb k 0 fails) refl;
+        buffer-is = λ output. rw (← asked, ne-eqb k 0 fails) refl;
+      }
+
+  pub query-yes : {after : List ℕ} {r : ℕ} → k ≡ 0 → Queried s before after r → Asked s string nodes shingles cells before after r
+  unfolding writeQuery stateOf
+  query-yes z q =
+      record {
+        answer-is = λ output. q .answer-is ∙ rw (← asked, eq-eqb k 0 z) refl;
+        buffer-is = λ output. q .buffer-is ∙ rw (← asked, eq-eqb k 0 z) refl;
+      }
+
+-- Setting up.
+module _ {σ : Settings} {session : ℕ} {string nodes nodes′ shingles shingles′ cells cells′ : List ℕ} {r : ℕ}
+    (made : SetUp σ string true nodes nodes′ shingles shingles′ cells cells′ r) {state : Receiver} where
+  pub setup-no : r < 2 ^ 32 → Starts (record { window = 0; «fan_out» = 0; levels = 0; nominal = 0; width = 0 }) 0 state
+      → ReceiverSetUp σ session string nodes nodes′ shingles shingles′ cells cells′ (taking r state)
+  unfolding stateAfter
+  setup-no small starts =
+      record {
+        tables = made;
+        state-is = starts .whole ∙ rw (ne-eqb _ 0 (no-answer _ _ _ _ _ _ _ _ _ _ made small)) refl;
+      }
+
+  pub setup-yes : 2 ^ 32 ≤ r → Starts σ session state → ReceiverSetUp σ session string nodes nodes′ shingles shingles′ cells cells′ (taking r state)
+  unfolding stateAfter
+  setup-yes large starts =
+      record {
+        tables = made;
+        state-is = starts .whole ∙ rw (eq-eqb _ 0 (yes-answer _ _ _ _ _ _ _ _ _ _ made large)) refl;
+      }

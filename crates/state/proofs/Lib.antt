@@ -1,0 +1,6 @@
+-- Laws of the receiver's state.
+pub mod Nine
+pub mod Pushing
+pub mod Asking
+pub mod Loading
+pub mod Storing

@@ -1,0 +1,5 @@
+-- The receiver's state as a struct, and what its calls promise.
+pub mod Receivers
+pub mod Pushing
+pub mod Asking
+pub mod Bytes
