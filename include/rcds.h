@@ -146,6 +146,46 @@ extern "C" {
 #define RCDS_COUNT(r) ((uint64_t)(r) & UINT64_C(0xffffffff))
 
 /*
+ * rcds_question_words - the words of an answer, for logs.
+ *
+ * answer       what a call answered.
+ *
+ * "accepted" for an accepted answer, of a refusal by 1 to 20 the number of the
+ * question and its no, "no such question" for any other. The text is constant
+ * and stays valid.
+ */
+static inline const char *rcds_question_words(uint64_t answer)
+{
+    static const char *const words[] = {
+        "accepted",
+        "1: window not 2 to 12",
+        "2: fan-out not 2 to 8",
+        "3: levels not 1 to 4",
+        "4: nominal not p to the power of levels, to 65,536",
+        "5: width not 1 to 64",
+        "6: string over 65,536 bytes",
+        "7: table or state lent too short",
+        "8: tree over 4,096 nodes",
+        "9: session not running",
+        "10: message not well formed",
+        "11: no query, or no reply to the outstanding query",
+        "12: rule or settings of the opening not the own",
+        "13: announced length over 65,536 or over the output lent",
+        "14: sketch does not open",
+        "15: 4,096 node replies taken before",
+        "16: reply is a none",
+        "17: composition, order or multiset not usable",
+        "18: output over the announced length",
+        "19: length or id of the output wrong",
+        "20: no room for what is written"
+    };
+
+    if (RCDS_ACCEPTED(answer))
+        return words[0];
+    return answer <= 20 ? words[answer] : "no such question";
+}
+
+/*
  * rcds_tree - cut a string into its tree of blocks.
  *
  * w            bytes of a window. The value of a window decides where a cut

@@ -2,8 +2,8 @@
 //!
 //!     bench [GROUP...]
 //!
-//! The groups are `tree`, `trails`, `setups` and `openings`; none stands for all that are built in. A
-//! group is built in by the feature of its name, and all are, unless cargo is told otherwise.
+//! The groups are `tree`, `trails`, `setups`, `openings` and `sessions`; none stands for all that are
+//! built in. A group is built in by the feature of its name, and all are, unless cargo is told otherwise.
 //!
 //! A cost is counted in plain FNV-1a passes, which are timed in turn with the calls. Nothing here
 //! fails because of a time; a wrong answer stops the run.
@@ -12,6 +12,8 @@ mod clock;
 #[cfg(feature = "openings")]
 mod openings;
 mod pass;
+#[cfg(feature = "sessions")]
+mod sessions;
 #[cfg(feature = "setups")]
 mod setups;
 #[cfg(feature = "trails")]
@@ -28,6 +30,8 @@ const GROUPS: &[(&str, fn())] = &[
     ("setups", setups::run),
     #[cfg(feature = "openings")]
     ("openings", openings::run),
+    #[cfg(feature = "sessions")]
+    ("sessions", sessions::run),
 ];
 
 fn main() {

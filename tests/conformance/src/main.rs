@@ -2,9 +2,10 @@
 //!
 //!     conformance [GROUP...] [SEED [CASE]]
 //!
-//! The groups are `tree`, `trails`, `messages`, `setups`, `replies` and `openings`; none stands for all
-//! that are built in. Without a case it runs all of them and prints a line for each call; it stops at the first
-//! that differs. With a case, and then with one group, it runs that case alone.
+//! The groups are `tree`, `trails`, `messages`, `setups`, `replies`, `openings` and `sessions`; none
+//! stands for all that are built in. Without a case it runs all of them, the cases of each on two
+//! threads, and prints a line for each call; it stops at the first that differs. With a case, and then
+//! with one group, it runs that case alone.
 //!
 //! A group is built in by the feature of its name. All are, unless cargo is told otherwise.
 
@@ -29,6 +30,8 @@ const GROUPS: &[(&str, Run)] = &[
     ("replies", replies::run),
     #[cfg(feature = "openings")]
     ("openings", openings::run),
+    #[cfg(feature = "sessions")]
+    ("sessions", sessions::run),
 ];
 
 #[cfg(feature = "tree")]
@@ -190,6 +193,111 @@ mod openings {
         match case {
             None => run_all(seed, rcds_sketch_open),
             Some(number) => run_one(seed, number, rcds_sketch_open),
+        }
+    }
+}
+
+#[cfg(feature = "sessions")]
+mod sessions {
+    use conformance::failure::Failure;
+    use conformance::sessions::{run_all, run_one, Calls};
+
+    extern "C" {
+        fn rcds_sender_setup(
+            w: u64,
+            p: u64,
+            levels: u64,
+            nominal: u64,
+            width: u64,
+            string: *const u8,
+            string_len: usize,
+            nodes: *mut u8,
+            nodes_len: usize,
+            shingles: *mut u8,
+            shingles_len: usize,
+            cells: *mut u8,
+            cells_len: usize,
+            state: *mut u8,
+            state_len: usize,
+        ) -> u64;
+        fn rcds_reply(
+            state: *const u8,
+            state_len: usize,
+            string: *const u8,
+            string_len: usize,
+            nodes: *const u8,
+            nodes_len: usize,
+            shingles: *const u8,
+            shingles_len: usize,
+            cells: *const u8,
+            cells_len: usize,
+            message: *const u8,
+            message_len: usize,
+            out: *mut u8,
+            out_len: usize,
+        ) -> u64;
+        fn rcds_receiver_setup(
+            w: u64,
+            p: u64,
+            levels: u64,
+            nominal: u64,
+            width: u64,
+            session: u64,
+            own: *const u8,
+            own_len: usize,
+            nodes: *mut u8,
+            nodes_len: usize,
+            shingles: *mut u8,
+            shingles_len: usize,
+            cells: *mut u8,
+            cells_len: usize,
+            state: *mut u8,
+            state_len: usize,
+        ) -> u64;
+        fn rcds_query(
+            state: *const u8,
+            state_len: usize,
+            own: *const u8,
+            own_len: usize,
+            nodes: *const u8,
+            nodes_len: usize,
+            shingles: *const u8,
+            shingles_len: usize,
+            cells: *const u8,
+            cells_len: usize,
+            out: *mut u8,
+            out_len: usize,
+        ) -> u64;
+        fn rcds_take(
+            state: *mut u8,
+            state_len: usize,
+            own: *const u8,
+            own_len: usize,
+            nodes: *const u8,
+            nodes_len: usize,
+            shingles: *mut u8,
+            shingles_len: usize,
+            cells: *const u8,
+            cells_len: usize,
+            message: *const u8,
+            message_len: usize,
+            output: *mut u8,
+            output_len: usize,
+        ) -> u64;
+    }
+
+    const CALLS: Calls = Calls {
+        sender_setup: rcds_sender_setup,
+        reply: rcds_reply,
+        receiver_setup: rcds_receiver_setup,
+        query: rcds_query,
+        take: rcds_take,
+    };
+
+    pub fn run(seed: u64, case: Option<usize>) -> Result<Vec<String>, Failure> {
+        match case {
+            None => run_all(seed, CALLS),
+            Some(number) => run_one(seed, number, CALLS),
         }
     }
 }

@@ -72,6 +72,11 @@ impl Random {
         self.between(smallest.max(least), largest.min(most))
     }
 
+    /// True in so many of a hundred cases.
+    pub fn percent(&mut self, chance: u64) -> bool {
+        self.between(0, 99) < chance
+    }
+
     /// One of a list.
     pub fn one_of<T: Copy>(&mut self, list: &[T]) -> T {
         list[self.between(0, list.len() as u64 - 1) as usize]

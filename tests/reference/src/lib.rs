@@ -16,6 +16,7 @@ pub mod partition;
 pub mod questions;
 pub mod rcds;
 pub mod receiver;
+pub mod receiver_state;
 pub mod reply;
 pub mod sender;
 pub mod settings;

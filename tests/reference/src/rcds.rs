@@ -3,9 +3,12 @@
 //! A call answers the number of the first question that had a no; or, accepted, 2^32 and a count
 //! or another small number.
 
+use crate::lent::Lent;
 use crate::message::parse;
 use crate::opening::open;
 use crate::questions;
+use crate::receiver::{self, Answer};
+use crate::receiver_state::{self, ended};
 use crate::settings::Settings;
 use crate::shingle::shingles;
 use crate::sketch::sketch;
@@ -194,5 +197,57 @@ pub fn rcds_sketch_open(
             ACCEPTED + list.len() as u64
         }
         Err(_) => 14,
+    }
+}
+
+/// `rcds_receiver_setup`: the tables as the sender's setup leaves them, and the state of a session
+/// that has not begun. Asks 1 to 8, in this order; 7 of the state too.
+///
+/// "A no at 1 to 7 leaves tables unchanged; at 8 they are all zero. No state is made."
+pub fn rcds_receiver_setup(
+    settings: &Settings,
+    width: u64,
+    session: u64,
+    lent: &mut Lent,
+    state: &mut [u8],
+) -> u64 {
+    if state.len() < receiver_state::STATE_BYTES {
+        return lent.refused(settings, width).unwrap_or(7);
+    }
+    match receiver::set_up(settings, width, session, lent) {
+        Ok(receiver) => {
+            receiver_state::write(&receiver, state);
+            ACCEPTED + lent.node_list().len() as u64
+        }
+        Err(question) => question,
+    }
+}
+
+/// `rcds_query`: the outstanding query to the front of the buffer. Asks 1 to 7, 9, 20.
+pub fn rcds_query(state: &[u8], lent: &Lent, buffer: &mut [u8]) -> u64 {
+    receiver::write_query(&receiver_state::read(state), lent, buffer)
+}
+
+/// `rcds_take`: takes a message. Asks 1 to 7, then 9 to 19. Answers 0 while the session goes on, and
+/// 2^32 and the announced length when the string is handed over. A no at 1 to 11 leaves the state as
+/// it is; an ended session's holds settings and number alone.
+pub fn rcds_take(state: &mut [u8], lent: &mut Lent, message: &[u8], output: &mut [u8]) -> u64 {
+    let mut receiver = receiver_state::read(state);
+    let answer = receiver::take(&mut receiver, lent, message, output);
+    match answer {
+        Answer::Waiting => {
+            receiver_state::write(&receiver, state);
+            0
+        }
+        Answer::Handed(length) => {
+            receiver_state::write(&ended(&receiver), state);
+            ACCEPTED + length
+        }
+        Answer::Refused(question) => {
+            if question >= 12 {
+                receiver_state::write(&ended(&receiver), state);
+            }
+            question
+        }
     }
 }

@@ -174,7 +174,9 @@ fn matching(state: &Receiver, lent: &Lent, message: &[u8]) -> Result<Body, u64> 
         | &Body::None { level, id } => Body::NodeQuery { level, id },
         Body::OpeningQuery | Body::NodeQuery { .. } => return Err(11),
     };
-    match (message.session, asked) == (query.session, query.body) {
+    // A state that no setup left may hold a number of more than 24 bits, which no message has.
+    let this_session = u64::from(message.session) == state.session;
+    match this_session && asked == query.body {
         true => Ok(message.body),
         false => Err(11),
     }

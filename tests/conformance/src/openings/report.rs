@@ -4,6 +4,7 @@ use super::cases::{case, families, Family};
 use super::compare::{compare, Done, SketchOpen};
 use super::forged::Oddity;
 use crate::failure::Failure;
+use crate::two_threads::in_order;
 use reference::opening::{Closed, NotSingle};
 use reference::rcds::ACCEPTED;
 use std::collections::BTreeMap;
@@ -32,11 +33,11 @@ pub struct Report {
 /// Runs the first cases, so many of them, up to the first that differs.
 pub fn run(seed: u64, cases: usize, function: SketchOpen) -> Result<Report, Failure> {
     let mut report = Report::default();
-    for number in 0..cases {
+    let work = |number: usize| {
         let case = case(seed, number);
-        let done = compare(&case, function)?;
-        report.add(case.family, &done);
-    }
+        Ok((case.family, compare(&case, function)?))
+    };
+    in_order(cases, work, |(family, done)| report.add(family, &done))?;
     Ok(report)
 }
 

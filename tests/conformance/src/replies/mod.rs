@@ -5,7 +5,7 @@ mod cases;
 mod compare;
 mod queries;
 mod report;
-mod setup;
+pub(crate) mod setup;
 
 #[cfg(test)]
 mod faults;

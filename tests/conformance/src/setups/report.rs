@@ -4,6 +4,7 @@ use super::cases::{case, Case};
 use super::compare::{compare, Done, SenderSetup};
 use crate::content::KINDS;
 use crate::failure::Failure;
+use crate::two_threads::in_order;
 use reference::rcds::ACCEPTED;
 use std::collections::{BTreeMap, BTreeSet};
 use std::fmt;
@@ -38,11 +39,12 @@ pub struct Report {
 /// Runs the first cases, so many of them, up to the first that differs.
 pub fn run(seed: u64, cases: usize, function: SenderSetup) -> Result<Report, Failure> {
     let mut report = Report::default();
-    for number in 0..cases {
+    let work = |number: usize| {
         let case = case(seed, number);
         let done = compare(&case, function)?;
-        report.add(&case, &done);
-    }
+        Ok((case, done))
+    };
+    in_order(cases, work, |(case, done)| report.add(&case, &done))?;
     Ok(report)
 }
 

@@ -3,6 +3,7 @@
 use super::cases::{case, families, Family};
 use super::compare::{compare, Calls, Done};
 use crate::failure::Failure;
+use crate::two_threads::in_order;
 use reference::rcds::ACCEPTED;
 use std::collections::{BTreeMap, BTreeSet};
 use std::fmt;
@@ -48,11 +49,11 @@ pub struct OrderReport {
 /// Runs the first cases, so many of them, up to the first that differs.
 pub fn run(seed: u64, cases: usize, calls: Calls) -> Result<Report, Failure> {
     let mut report = Report::default();
-    for number in 0..cases {
+    let work = |number: usize| {
         let case = case(seed, number);
-        let done = compare(&case, calls)?;
-        report.add(case.family, &done);
-    }
+        Ok((case.family, compare(&case, calls)?))
+    };
+    in_order(cases, work, |(family, done)| report.add(family, &done))?;
     Ok(report)
 }
 

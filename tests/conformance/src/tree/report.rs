@@ -4,6 +4,7 @@ use super::cases::{case, Case};
 use super::compare::{compare, Tree};
 use crate::content::KINDS;
 use crate::failure::Failure;
+use crate::two_threads::in_order;
 use reference::rcds::ACCEPTED;
 use std::collections::BTreeMap;
 use std::fmt;
@@ -27,11 +28,12 @@ pub struct Report {
 /// Runs the first cases, so many of them, up to the first that differs.
 pub fn run(seed: u64, cases: usize, function: Tree) -> Result<Report, Failure> {
     let mut report = Report::default();
-    for number in 0..cases {
+    let work = |number: usize| {
         let case = case(seed, number);
         let answer = compare(&case, function)?;
-        report.add(&case, answer);
-    }
+        Ok((case, answer))
+    };
+    in_order(cases, work, |(case, answer)| report.add(&case, answer))?;
     Ok(report)
 }
 

@@ -1,0 +1,43 @@
+//! What the archive's sessions cost on the link.
+//!
+//!     link [GROUP...]
+//!
+//! - `pairs`: bytes of whole sessions over pairs of strings, beside rsync and rdiff where they are
+//!   installed.
+//! - `settings`: how many shingles a change makes differ, and what other settings cost.
+//! - `blocks`: what settings make of a string.
+//! - `widths`: which sketch widths open how many differences.
+//! - `stack`: how deep each call's stack goes.
+//!
+//! No group stands for all. A wrong string that is handed over stops the run.
+
+mod blocks;
+mod calls;
+mod others;
+mod pairs;
+mod session;
+mod settings;
+mod stack;
+mod strings;
+mod widths;
+
+const GROUPS: [(&str, fn()); 5] = [
+    ("pairs", pairs::run),
+    ("settings", settings::run),
+    ("blocks", blocks::run),
+    ("widths", widths::run),
+    ("stack", stack::run),
+];
+
+fn main() {
+    let names: Vec<String> = std::env::args().skip(1).collect();
+    for name in &names {
+        let known = GROUPS.iter().any(|(group, _)| group == name);
+        assert!(known, "{name}: no such group");
+    }
+    for (group, run) in GROUPS {
+        if names.is_empty() || names.iter().any(|name| name == group) {
+            run();
+        }
+    }
+}

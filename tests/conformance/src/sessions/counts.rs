@@ -1,0 +1,123 @@
+//! What the calls of sessions came to.
+
+use super::forged::Forgery;
+use reference::rcds::ACCEPTED;
+use std::collections::BTreeMap;
+
+/// A call of the C interface.
+#[derive(Clone, Copy, Debug, PartialEq, Eq, PartialOrd, Ord)]
+pub enum Call {
+    SenderSetup,
+    Reply,
+    ReceiverSetup,
+    Query,
+    Take,
+}
+
+/// All of them.
+pub const CALLS: [Call; 5] = [
+    Call::SenderSetup,
+    Call::Reply,
+    Call::ReceiverSetup,
+    Call::Query,
+    Call::Take,
+];
+
+impl Call {
+    pub fn name(self) -> &'static str {
+        match self {
+            Call::SenderSetup => "rcds_sender_setup",
+            Call::Reply => "rcds_reply",
+            Call::ReceiverSetup => "rcds_receiver_setup",
+            Call::Query => "rcds_query",
+            Call::Take => "rcds_take",
+        }
+    }
+
+    /// Every answer that the call can give, with 2^32 for all from there on: a count, or, of a
+    /// message taken, the string that is handed over.
+    pub fn answers(self) -> Vec<u64> {
+        match self {
+            Call::SenderSetup | Call::ReceiverSetup => [vec![ACCEPTED], (1..=8).collect()].concat(),
+            Call::Reply => vec![ACCEPTED, 1, 2, 3, 4, 5, 6, 7, 10, 11, 20],
+            Call::Query => vec![ACCEPTED, 1, 2, 3, 4, 5, 6, 7, 9, 20],
+            Call::Take => {
+                let refused = (1..=7).chain(9..=19);
+                [0, ACCEPTED].into_iter().chain(refused).collect()
+            }
+        }
+    }
+}
+
+/// Numbers of one session, or of many.
+#[derive(Clone, Debug, Default)]
+pub struct Counts {
+    /// How often each call gave each answer, with 2^32 for all from there on.
+    pub answers: BTreeMap<(Call, u64), usize>,
+    /// Messages written by the sender, and messages that the receiver accepted, by type.
+    pub replied: BTreeMap<u32, usize>,
+    pub accepted: BTreeMap<u32, usize>,
+    /// Forged messages, accepted and refused.
+    pub forged: BTreeMap<Forgery, [usize; 2]>,
+    /// Messages accepted: all of a session's, and the most of one.
+    pub most_accepted: usize,
+    /// The most nodes that were pending.
+    pub most_pending: usize,
+    /// Strings handed over: the sender's string, by the opening alone, and the longest.
+    pub senders_string: usize,
+    pub by_opening: usize,
+    pub longest: usize,
+    /// Literals accepted of nodes above the last level, and empty ones.
+    pub literals_above: usize,
+    pub literals_empty: usize,
+    /// Compositions accepted with a number above 0.
+    pub numbers: usize,
+    /// Calls over altered tables, strings or outputs, and over altered states.
+    pub altered_memory: usize,
+    pub altered_states: usize,
+}
+
+impl Counts {
+    pub fn answer(&mut self, call: Call, answer: u64) {
+        *self
+            .answers
+            .entry((call, answer.min(ACCEPTED)))
+            .or_default() += 1;
+    }
+
+    /// How often a call gave this answer.
+    pub fn of(&self, call: Call, answer: u64) -> usize {
+        self.answers.get(&(call, answer)).copied().unwrap_or(0)
+    }
+
+    /// Adds the counts of other sessions.
+    pub fn add(&mut self, other: &Counts) {
+        add_each(&mut self.answers, &other.answers);
+        add_each(&mut self.replied, &other.replied);
+        add_each(&mut self.accepted, &other.accepted);
+        for (kind, [accepted, refused]) in &other.forged {
+            let counts = self.forged.entry(*kind).or_default();
+            counts[0] += accepted;
+            counts[1] += refused;
+        }
+        self.most_accepted = self.most_accepted.max(other.most_accepted);
+        self.most_pending = self.most_pending.max(other.most_pending);
+        self.longest = self.longest.max(other.longest);
+        let sums = [
+            (&mut self.senders_string, other.senders_string),
+            (&mut self.by_opening, other.by_opening),
+            (&mut self.literals_above, other.literals_above),
+            (&mut self.literals_empty, other.literals_empty),
+            (&mut self.numbers, other.numbers),
+            (&mut self.altered_memory, other.altered_memory),
+            (&mut self.altered_states, other.altered_states),
+        ];
+        sums.into_iter().for_each(|(sum, more)| *sum += more);
+    }
+}
+
+fn add_each<K: Ord + Copy>(sums: &mut BTreeMap<K, usize>, more: &BTreeMap<K, usize>) {
+    for (key, count) in more {
+        *sums.entry(*key).or_default() += count;
+    }
+}

@@ -1,0 +1,458 @@
+//! What the receiver does with a message, written a second time, with a fault.
+
+use super::receiver::{
+    asked, matches, refused, rows, running, write_rows, ACCEPTED, BUILT, LEVELS, PHASE, PLACES,
+    ROOT, ROWS, SIZE, TAKEN, WAITING, WIDTH,
+};
+use super::*;
+use reference::fnv::fnv1a;
+use reference::lent::Lent;
+use reference::message::{parse, Body, Opening};
+use reference::opening::{closed, difference, new_list, takings};
+use reference::shingle::Shingle;
+use reference::shingle_table;
+use reference::trail::order_of_number;
+use reference::tree::Node;
+use reference::word::Reference;
+use std::cell::RefCell;
+
+thread_local! {
+    /// What was built, for a function that trusts it, and the last message that was accepted.
+    static TRUSTED: RefCell<Vec<u8>> = const { RefCell::new(Vec::new()) };
+    static LAST: RefCell<Vec<u8>> = const { RefCell::new(Vec::new()) };
+}
+
+/// What a message leads to.
+struct Next {
+    rows: Vec<u64>,
+    added: Vec<u8>,
+    list: Option<Vec<Shingle>>,
+}
+
+pub fn take(
+    fault: u8,
+    state: &mut [u8],
+    lent: &mut Lent,
+    message: &[u8],
+    output: &mut [u8],
+) -> u64 {
+    let before = rows(fault, state);
+    if fault == TEN_FIRST && parse(message).is_none() {
+        return 10;
+    }
+    if let Some(question) = refused(fault, state, &before, lent) {
+        return question;
+    }
+    if !running(fault, &before) {
+        return 9;
+    }
+    let head_session = message
+        .get(1..4)
+        .map(|b| u32::from_be_bytes([0, b[0], b[1], b[2]]));
+    if fault == ELEVEN_FIRST && head_session.is_some_and(|s| s != asked(fault, &before).session) {
+        return 11;
+    }
+    let bytes = message;
+    let Some(message) = parse(message) else {
+        return 10;
+    };
+    let again = fault == LAST_AGAIN && before[PHASE] == 1 && LAST.take() == bytes;
+    let matches = matches(fault, &before, &message);
+    if !matches && !again {
+        match fault {
+            ZEROED_AT_11 => output.fill(0),
+            ENDED_AT_11 => write_rows(&ended(fault, &before), state),
+            _ => {}
+        }
+        return 11;
+    }
+    let next = match &message.body {
+        Body::Opening(opening) => open(fault, &before, lent, opening, output),
+        body => node_reply(fault, &before, lent, body, output),
+    };
+    LAST.set(bytes.to_vec());
+    match next {
+        Ok(next) => leave(fault, next, state, lent, output),
+        Err(question) => refuse(fault, question, &before, state, lent, &message.body, output),
+    }
+}
+
+/// An ended session's rows.
+fn ended(fault: u8, before: &[u64]) -> Vec<u64> {
+    let mut rows = vec![0; ROWS];
+    rows[..PHASE].copy_from_slice(&before[..PHASE]);
+    rows[PHASE] = match fault {
+        ENDS_AS_3 => 3,
+        _ => 2,
+    };
+    if fault == ENDED_KEEPS_ITS_PLACES {
+        rows[PLACES..].copy_from_slice(&before[PLACES..]);
+    }
+    if fault == ENDED_KEEPS_ITS_COUNTS {
+        rows[TAKEN] = before[TAKEN];
+    }
+    rows
+}
+
+/// A no at 12 to 19.
+fn refuse(
+    fault: u8,
+    question: u64,
+    before: &[u64],
+    state: &mut [u8],
+    lent: &mut Lent,
+    body: &Body,
+    output: &mut [u8],
+) -> u64 {
+    let size = (before[SIZE] as usize).min(output.len());
+    match fault {
+        NEVER_ZEROES => {}
+        ZEROES_WHAT_IS_ANNOUNCED => output[..size].fill(0),
+        ZEROES_WHAT_IS_BUILT => output[..size.min(before[BUILT] as usize)].fill(0),
+        NONE_ONLY_REFUSED if question == 16 => return 16,
+        _ => output.fill(0),
+    }
+    let early = fault == LIST_LEFT_AT_18 && question == 18;
+    let late = fault == LIST_LEFT_AT_19 && question == 19;
+    if let (true, Body::Opening(opening)) = (early || late, body) {
+        if let Some(list) = opened(NONE, before, lent, opening) {
+            shingle_table::write(&list, &mut lent.shingles);
+        }
+    }
+    if fault != NEVER_ENDS {
+        write_rows(&ended(fault, before), state);
+    }
+    question
+}
+
+/// What an accepted message leaves.
+fn leave(fault: u8, next: Next, state: &mut [u8], lent: &mut Lent, output: &mut [u8]) -> u64 {
+    let Next { rows, added, list } = next;
+    let (size, built) = (rows[SIZE], rows[BUILT] as usize);
+    let from = (built - added.len()).min(output.len());
+    let fits = added.len().min(output.len() - from);
+    TRUSTED.with_borrow_mut(|trusted| {
+        trusted.resize(from, 0);
+        trusted.extend(&added);
+    });
+    output[from..from + fits].copy_from_slice(&added[..fits]);
+    if fault == OUTPUT_REST_CLEARED {
+        output[from + fits..].fill(0);
+    }
+    match (fault, list) {
+        (LIST_NOT_LEFT, _) | (_, None) => {}
+        (LIST_NOT_CLEARED, Some(list)) => {
+            let bytes: Vec<u8> = list.iter().flat_map(shingle_table::entry).collect();
+            lent.shingles[..bytes.len()].copy_from_slice(&bytes);
+        }
+        (_, Some(list)) => shingle_table::write(&list, &mut lent.shingles),
+    }
+    let done = rows[WAITING] == 0;
+    match done && fault != HANDED_GOES_ON {
+        true => write_rows(&ended(fault, &rows), state),
+        false => write_rows(&rows, state),
+    }
+    match (done, fault) {
+        (false, GOES_ON_BY_ITS_LENGTH) => ACCEPTED + built as u64,
+        (false, _) => 0,
+        (true, HANDS_THE_BUFFER) => ACCEPTED + output.len() as u64,
+        (true, _) => ACCEPTED + size,
+    }
+}
+
+/// 14: the new list, if the sketch opens.
+fn opened(fault: u8, rows: &[u64], lent: &Lent, opening: &Opening) -> Option<Vec<Shingle>> {
+    let (levels, width) = (rows[LEVELS], rows[WIDTH]);
+    let own = lent.shingle_list();
+    // A function that has not asked for the cells' length, or 12, reads what is there.
+    let mut own_cells = lent.cell_list(width);
+    own_cells.resize(3 * width as usize, [0; 5]);
+    let mut theirs = opening.cells.clone();
+    theirs.resize(3 * width as usize, [0; 5]);
+    let takings = takings(&difference(&theirs, &own_cells), levels, width);
+    let closed = closed(&takings, &own);
+    let too_many = fault == FOURTEEN_EARLY && takings.taken.len() > width as usize;
+    match closed.is_empty() && !too_many {
+        true => Some(new_list(&own, &takings.taken)),
+        false => None,
+    }
+}
+
+fn open(
+    fault: u8,
+    before: &[u64],
+    lent: &Lent,
+    opening: &Opening,
+    output: &[u8],
+) -> Result<Next, u64> {
+    if fault == FOURTEEN_FIRST && opened(fault, before, lent, opening).is_none() {
+        return Err(14);
+    }
+    let theirs = [
+        opening.window,
+        opening.fan_out,
+        opening.levels,
+        opening.nominal,
+        opening.width,
+    ];
+    let same = |k: usize| match (fault, k) {
+        (NOMINAL_NOT_ASKED, 3) => true,
+        (WINDOW_LOW_BYTE, 0) => theirs[0] % 256 == before[0] as u32,
+        (WIDTH_NOT_ASKED, 4) => true,
+        _ => u64::from(theirs[k]) == before[k],
+    };
+    let rule = opening.rule == 1 || fault == RULE_NOT_ASKED;
+    if !(rule && (0..5).all(same)) {
+        return Err(12);
+    }
+    let length = u64::from(opening.length);
+    let room = output.len() as u64;
+    let allowed = match fault {
+        ONLY_THE_BUFFER_ASKED => length <= room,
+        ONLY_THE_LIMIT_ASKED => length <= 65_536,
+        EXACT_OUTPUT_REFUSED => length <= 65_536 && length < room,
+        _ => length <= 65_536 && length <= room,
+    };
+    if !allowed && fault != THIRTEEN_AFTER_FOURTEEN {
+        return Err(13);
+    }
+    let list = opened(fault, before, lent, opening).ok_or(14_u64)?;
+    if !allowed {
+        return Err(13);
+    }
+    let mut rows = vec![0; ROWS];
+    rows[..PHASE].copy_from_slice(&before[..PHASE]);
+    rows[PHASE] = 1;
+    rows[SIZE] = length;
+    rows[ROOT] = opening.root;
+    rows[TAKEN] = u64::from(fault == OPENING_COUNTED);
+    rows[BUILT] = match fault {
+        BUILT_KEPT_AT_OPENING => before[BUILT].min(length),
+        _ => 0,
+    };
+    rows[WAITING] = 1;
+    rows[PLACES + 1] = opening.root;
+    let copies = fault != NO_COPY_AT_OPENING;
+    let next = settle(fault, rows, Vec::new(), lent, output, copies)?;
+    Ok(Next {
+        list: Some(list),
+        ..next
+    })
+}
+
+fn node_reply(
+    fault: u8,
+    before: &[u64],
+    lent: &Lent,
+    body: &Body,
+    output: &[u8],
+) -> Result<Next, u64> {
+    let room = output.len() as u64;
+    let size = before[SIZE];
+    if (size > 65_536 || size > room) && fault != NODES_ASK_NO_13 {
+        return Err(13);
+    }
+    let composed = match body {
+        Body::Composition {
+            number, references, ..
+        } => Some(children(fault, before, lent, *number, references)),
+        _ => None,
+    };
+    if fault == SEVENTEEN_FIRST && composed == Some(None) {
+        return Err(17);
+    }
+    let most = match fault {
+        MOST_4095 => 4_095,
+        MOST_4097 => 4_097,
+        _ => 4_096,
+    };
+    if fault == SIXTEEN_FIRST && matches!(body, Body::None { .. }) {
+        return Err(16);
+    }
+    if before[TAKEN] >= most {
+        return Err(15);
+    }
+    let mut rows = before.to_vec();
+    let counted = match (fault, body) {
+        (LITERALS_NOT_COUNTED, Body::Literal { .. }) => 0,
+        (COUNTED_TWICE, _) => 2,
+        _ => 1,
+    };
+    rows[TAKEN] = rows[TAKEN].wrapping_add(counted);
+    rows[WAITING] -= 1;
+    let added = match body {
+        Body::Literal { bytes, .. } => bytes.clone(),
+        Body::Composition { .. } => {
+            let ids = composed.flatten().ok_or(17_u64)?;
+            push(fault, &mut rows, &ids)?;
+            Vec::new()
+        }
+        _ if fault == NONE_IS_EMPTY => Vec::new(),
+        _ => return Err(16),
+    };
+    let copies = !(fault == NO_COPY_AFTER_LITERAL && matches!(body, Body::Literal { .. }));
+    settle(fault, rows, added, lent, output, copies)
+}
+
+/// 17: the children of the top, but for the pile.
+fn children(
+    fault: u8,
+    rows: &[u64],
+    lent: &Lent,
+    number: u32,
+    references: &[Reference],
+) -> Option<Vec<u64>> {
+    let level = rows[PLACES + 2 * (rows[WAITING] as usize - 1)];
+    if level >= rows[LEVELS] && fault != COMPOSED_AT_THE_LAST_LEVEL {
+        return None;
+    }
+    let list = lent.shingle_list();
+    let mut pairs = Vec::new();
+    for reference in references {
+        let index = reference.index as usize + usize::from(fault == INDEX_FROM_1);
+        let shingle = list.get(index)?;
+        let same_level = shingle.level == level.wrapping_add(1) || fault == LIST_LEVEL_NOT_ASKED;
+        let counted = match fault {
+            LIST_COUNT_NOT_ASKED => true,
+            _ => u64::from(reference.count) <= shingle.count,
+        };
+        if !same_level || !counted {
+            return None;
+        }
+        let count = match fault {
+            COUNTS_OF_THE_LIST => shingle.count,
+            _ => u64::from(reference.count),
+        };
+        pairs.push(((shingle.previous, shingle.own), count));
+    }
+    let number = match fault {
+        NUMBER_IGNORED => 0,
+        NUMBER_LOW_12_BITS => number % 4_096,
+        _ => number,
+    };
+    let k: u64 = pairs.iter().map(|(_, count)| count).sum();
+    if fault == CHILDREN_TO_31 && k > 31 || fault == ONE_REFERENCE_ALONE && references.len() > 1 {
+        return None;
+    }
+    order_of_number(&pairs, u64::from(number))
+}
+
+/// The children in place of the node, the first on the top.
+fn push(fault: u8, rows: &mut [u64], ids: &[u64]) -> Result<(), u64> {
+    let mut waiting = rows[WAITING] as usize;
+    let level = rows[PLACES + 2 * waiting];
+    let mut order: Vec<u64> = ids.iter().rev().copied().collect();
+    match fault {
+        CHILDREN_TURNED_ROUND => order.reverse(),
+        CHILDREN_PUSHED_TWICE => order.extend(order.clone()),
+        CHILDREN_FEIGNED => order = vec![rows[PLACES + 2 * waiting + 1]],
+        _ => {}
+    }
+    let below = match fault {
+        LEVEL_KEPT | CHILDREN_FEIGNED => level,
+        _ => level.wrapping_add(1),
+    };
+    if fault == NODE_KEPT {
+        waiting += 1;
+    }
+    let most = match fault {
+        PILE_TO_127 => 127,
+        PILE_TO_125 => 125,
+        _ => 128,
+    };
+    if waiting + order.len() > most {
+        return Err(17);
+    }
+    for id in order {
+        rows[PLACES + 2 * waiting] = below;
+        rows[PLACES + 2 * waiting + 1] = id;
+        waiting += 1;
+    }
+    rows[WAITING] = waiting as u64;
+    Ok(())
+}
+
+/// Copies what the receiver has, then 18 and 19.
+fn settle(
+    fault: u8,
+    mut rows: Vec<u64>,
+    mut added: Vec<u8>,
+    lent: &Lent,
+    output: &[u8],
+    copies: bool,
+) -> Result<Next, u64> {
+    let nodes = lent.node_list();
+    let mut left = match (copies, fault) {
+        (false, _) => 0,
+        (true, COPIES_ONCE) => 1,
+        _ => 129,
+    };
+    while rows[WAITING] > 0 && left > 0 {
+        let top = rows[WAITING] as usize - 1;
+        let (level, id) = (rows[PLACES + 2 * top], rows[PLACES + 2 * top + 1]);
+        let Some(node) = find(fault, &nodes, lent, level, id) else {
+            break;
+        };
+        let end = (node.start + node.length).min(lent.string.len());
+        added.extend(&lent.string[node.start.min(end)..end]);
+        rows[WAITING] -= 1;
+        left -= 1;
+    }
+    let (size, from) = (rows[SIZE], rows[BUILT]);
+    let built = from.saturating_add(added.len() as u64);
+    let within = match fault {
+        BUILT_TO_THE_BUFFER => built <= output.len() as u64,
+        ALL_BUT_THE_LAST_BYTE => built < size || added.is_empty(),
+        BUILT_ALREADY_NOT_ASKED if added.is_empty() => true,
+        _ => built <= size,
+    };
+    if !within {
+        return Err(18);
+    }
+    rows[BUILT] = built;
+    if rows[WAITING] == 0 && !whole(fault, &rows, &added, output) {
+        return Err(19);
+    }
+    Ok(Next {
+        rows,
+        added,
+        list: None,
+    })
+}
+
+fn find(fault: u8, nodes: &[Node], lent: &Lent, level: u64, id: u64) -> Option<Node> {
+    let same = |node: &&Node| {
+        let same_id = match fault {
+            COPIES_LOW_32_BITS => node.id as u32 == id as u32,
+            _ => node.id == id,
+        };
+        let same_level = fault != COPIES_OF_THE_LEVEL || node.level == level;
+        let leaf = fault != COPIES_BLOCKS_ALONE || node.level > 0;
+        same_id && same_level && leaf && (lent.holds(node) || fault == COPIES_FROM_OUTSIDE)
+    };
+    match fault {
+        COPIES_LAST => nodes.iter().rev().find(same).copied(),
+        _ => nodes.iter().find(same).copied(),
+    }
+}
+
+/// 19.
+fn whole(fault: u8, rows: &[u64], added: &[u8], output: &[u8]) -> bool {
+    let from = (rows[BUILT] as usize - added.len()).min(output.len());
+    let trusted = TRUSTED.with_borrow(Vec::clone);
+    let before = match fault {
+        RUNNING_VALUE_TRUSTED if trusted.len() == from => &trusted[..],
+        _ => &output[..from],
+    };
+    let string = [before, added].concat();
+    let length = string.len() as u64 == rows[SIZE] || fault == LENGTH_NOT_ASKED;
+    let hash = fnv1a(&string);
+    let id = match fault {
+        HASH_NOT_ASKED => true,
+        HASH_OF_ADDED_ALONE => from > 0 || hash.max(1) == rows[ROOT],
+        HASH_0_IS_0 => hash == rows[ROOT],
+        HASH_LOW_32_BITS => hash.max(1) as u32 == rows[ROOT] as u32,
+        _ => hash.max(1) == rows[ROOT],
+    };
+    length && id
+}
