@@ -1,0 +1,3 @@
+-- A whole session between two strings, said by the definitions of crate `protocol`.
+pub mod Session
+pub mod Calls
