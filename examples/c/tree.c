@@ -5,7 +5,7 @@
  *
  * FILE is "-", or absent, for standard input. Without settings they are
  * 4 4 3 4096. A line for each node: level, start, length, id. A refusal goes
- * to standard error with the number and the meaning of the question, and the
+ * to standard error with the number and the words of the question, and the
  * status is 1.
  */
 #include "rcds.h"
@@ -20,20 +20,6 @@
  * refused by question 6 and not cut off. */
 static uint8_t string[RCDS_MAX_STRING + 1];
 static uint8_t nodes[RCDS_NODES_BYTES];
-
-static const char *meaning(uint64_t question)
-{
-    switch (question) {
-    case 1: return "the window w must be 2 to 12";
-    case 2: return "the fan-out p must be 2 to 8";
-    case 3: return "the levels must be 1 to 4";
-    case 4: return "the nominal length must be p^levels to 65536";
-    case 6: return "the string must have at most 65536 bytes";
-    case 7: return "the node table must have at least 65536 bytes";
-    case 8: return "the tree must have at most 4096 nodes";
-    default: return "unknown";
-    }
-}
 
 /* A setting of the command line. Any whole number goes to the library, which
  * is the one to refuse it. */
@@ -92,8 +78,7 @@ int main(int argc, char **argv)
 
     answer = rcds_tree(w, p, levels, nominal, string, length, nodes, sizeof nodes);
     if (!RCDS_ACCEPTED(answer)) {
-        fprintf(stderr, "tree: refused by question %" PRIu64 ": %s\n",
-                answer, meaning(answer));
+        fprintf(stderr, "tree: refused, %s\n", rcds_question_words(answer));
         return 1;
     }
 
