@@ -14,7 +14,7 @@ use Rattle.copying.specs.Copying.{pileOf}
 use Rattle.state.specs.Receivers.{phaseOf, idle, stateOf}
 use Rattle.receiver.specs.declared.Taken.{Taken}
 use Rattle.receiver.specs.Calls.{stateAfter, ReceiverSetUp}
-use Rattle.session.specs.Session.{standing, rounds, refusedAt, filled, Ending, endOf, sessionOf}
+use Rattle.session.specs.Session.{standing, rounds, refusedAt, filled, Ending, endOf, sessionBetween}
 use Rattle.session.specs.Calls.{Ends, ExchangedAll, Ran}
 
 -- One end's setup.
@@ -51,7 +51,7 @@ module _ {σ : Settings} {n : ℕ} {string nodes nodes′ shingles shingles′ c
     (sender : SetUp σ string true nodes nodes′ shingles shingles′ cells cells′ r) where
   pub sender-refused : {ours : Lent} → r < 2 ^ 32
       → Ran σ n (lent string nodes shingles cells []) (lent string nodes′ shingles′ cells′ []) ours ours buffer buffer r
-  unfolding sessionOf
+  unfolding sessionBetween
   sender-refused low =
       record {
         sender = filled-is sender [];
@@ -63,7 +63,7 @@ module _ {σ : Settings} {n : ℕ} {string nodes nodes′ shingles shingles′ c
     pub receiver-refused : t .answer < 2 ^ 32
         → Ran σ n (lent string nodes shingles cells []) (lent string nodes′ shingles′ cells′ []) (lent own own-nodes own-shingles own-cells output)
         (lent own own-nodes′ own-shingles′ own-cells′ output) buffer buffer (t .answer)
-    unfolding sessionOf
+    unfolding sessionBetween
     receiver-refused low =
         record {
           sender = filled-is sender [];
@@ -75,11 +75,11 @@ module _ {σ : Settings} {n : ℕ} {string nodes nodes′ shingles shingles′ c
         → ExchangedAll σ (t .state) (lent string nodes′ shingles′ cells′ []) (lent own own-nodes′ own-shingles′ own-cells′ output) ours′ buffer buffer′ k
         → Ran σ n (lent string nodes shingles cells []) (lent string nodes′ shingles′ cells′ []) (lent own own-nodes own-shingles own-cells output)
         ours′ buffer buffer′ k
-    unfolding sessionOf
+    unfolding sessionBetween
     all-exchanged yes-receiver exchanged =
         let is : endOf (rounds 4097 σ (lent string nodes′ shingles′ cells′ [])
         (standing 0 (stateOf (t .state)) (lent own own-nodes′ own-shingles′ own-cells′ output) buffer))
-        ≡ sessionOf 4097 σ n (lent string nodes shingles cells []) (lent own own-nodes own-shingles own-cells output) buffer =
+        ≡ sessionBetween 4097 σ n (lent string nodes shingles cells []) (lent own own-nodes own-shingles own-cells output) buffer =
         rw (
           eq-eqb _ 0 (refused-none sender [] yes-sender),
           eq-eqb _ 0 (refused-none (made .tables) output yes-receiver),

@@ -8,7 +8,7 @@ use Rattle.protocol.specs.Lent.{Lent}
 use Rattle.state.specs.declared.Receiver.{Receiver}
 use Rattle.state.specs.Receivers.{stateOf}
 use Rattle.receiver.specs.declared.Taken.{Taken}
-use Rattle.session.specs.Session.{Standing, standing, round, rounds, filled, Ending, endOf, sessionOf}
+use Rattle.session.specs.Session.{Standing, standing, round, rounds, filled, Ending, endOf, sessionBetween}
 
 -- What a round answers and leaves is where the session stands.
 pub record Stands (now : Standing) (ours : Lent) (buffer : List ℕ) (r : Taken) : Type 0 where
@@ -33,4 +33,4 @@ pub record ExchangedAll (σ : Settings) (s : Receiver) (theirs ours ours′ : Le
 -- A whole session with session number n, from the lent memory as it comes.
 pub record Ran (σ : Settings) (n : ℕ) (theirs theirs′ ours ours′ : Lent) (buffer buffer′ : List ℕ) (r : ℕ) : Type 0 where
   pub sender : theirs′ ≡ filled σ theirs
-  pub receiver : Ends (sessionOf 4097 σ n theirs ours buffer) ours′ buffer′ r
+  pub receiver : Ends (sessionBetween 4097 σ n theirs ours buffer) ours′ buffer′ r

@@ -76,8 +76,8 @@ abbrev pub endOf : Standing → Ending
 endOf now = ending (now .answer) (now .lent) (now .buffer)
 
 -- A whole session of so many rounds at most: the sender is set up, then the receiver, with session number n, and they exchange messages.
-unfoldable pub sessionOf : (budget : ℕ) → Settings → (n : ℕ) → (sender receiver : Lent) → (buffer : List ℕ) → Ending
-sessionOf budget σ n sender receiver buffer =
+unfoldable pub sessionBetween : (budget : ℕ) → Settings → (n : ℕ) → (sender receiver : Lent) → (buffer : List ℕ) → Ending
+sessionBetween budget σ n sender receiver buffer =
     cond (eqb (refusedAt σ sender) 0)
     (cond (eqb (refusedAt σ receiver) 0)
     (endOf (rounds budget σ (filled σ sender) (standing 0 (initial σ n) (filled σ receiver) buffer)))
