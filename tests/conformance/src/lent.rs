@@ -1,30 +1,89 @@
-//! Buffers that are lent to a call, between guard bytes.
+//! Buffers that are lent to a call, between guard bytes. `RCDS_LENT` in the environment says where they
+//! stand otherwise; what is drawn, and so every case, stays the same.
 
 use crate::failure::Difference;
+use crate::pages::Pages;
 use crate::random::Random;
+use std::sync::OnceLock;
 
 /// Bytes on each side of a lent buffer that no call may change.
 const GUARD: usize = 64;
 
-/// A lent buffer between its guard bytes.
+/// What fills the rest of the pages beside a lent buffer.
+const BESIDE: u8 = 0xa5;
+
+/// Where lent buffers stand.
+#[derive(Clone, Copy, Debug, PartialEq, Eq)]
+pub enum Place {
+    /// Between guard bytes.
+    Guarded,
+    /// `after`: the pages after the buffer's last byte may not be touched.
+    FlushWithTheEnd,
+    /// `before`: the pages before the buffer's first byte may not be touched.
+    FlushWithTheStart,
+    /// `heap`: in a block of the heap of exactly its length, around which valgrind keeps watch.
+    Alone,
+}
+
+/// Where this process lends its buffers.
+pub fn place() -> Place {
+    static PLACE: OnceLock<Place> = OnceLock::new();
+    *PLACE.get_or_init(|| match std::env::var("RCDS_LENT").as_deref() {
+        Err(_) => Place::Guarded,
+        Ok("after") => Place::FlushWithTheEnd,
+        Ok("before") => Place::FlushWithTheStart,
+        Ok("heap") => Place::Alone,
+        Ok(other) => panic!("RCDS_LENT={other}: after, before or heap"),
+    })
+}
+
+/// The bytes of a buffer and those beside it that may be looked at.
+enum Memory {
+    Vector(Vec<u8>),
+    Pages(Pages),
+}
+
+impl Memory {
+    fn bytes(&self) -> &[u8] {
+        match self {
+            Memory::Vector(bytes) => bytes,
+            Memory::Pages(pages) => pages.bytes(),
+        }
+    }
+}
+
+/// A lent buffer, and what is beside it.
 pub struct Lent {
     name: &'static str,
     before: Vec<u8>,
-    memory: Vec<u8>,
+    memory: Memory,
     start: usize,
     length: usize,
 }
 
 impl Lent {
-    /// Lends `bytes` at an address that is `shift` past the allocation's guard.
+    /// Lends `bytes`; between guard bytes, at an address that is `shift` past the allocation's guard.
     pub fn new(name: &'static str, bytes: &[u8], shift: usize, random: &mut Random) -> Lent {
-        let start = GUARD + shift;
-        let mut memory = random.bytes(start);
-        memory.extend(bytes);
-        memory.extend(random.bytes(GUARD));
+        let mut guarded = random.bytes(GUARD + shift);
+        guarded.extend(bytes);
+        guarded.extend(random.bytes(GUARD));
+        let in_pages = |at_end: bool| {
+            let mut pages = Pages::holding(bytes.len());
+            let all = pages.bytes_mut();
+            let start = if at_end { all.len() - bytes.len() } else { 0 };
+            all.fill(BESIDE);
+            all[start..start + bytes.len()].copy_from_slice(bytes);
+            (start, Memory::Pages(pages))
+        };
+        let (start, memory) = match place() {
+            Place::Guarded => (GUARD + shift, Memory::Vector(guarded)),
+            Place::FlushWithTheEnd => in_pages(true),
+            Place::FlushWithTheStart => in_pages(false),
+            Place::Alone => (0, Memory::Vector(bytes.to_vec())),
+        };
         Lent {
             name,
-            before: memory.clone(),
+            before: memory.bytes().to_vec(),
             memory,
             start,
             length: bytes.len(),
@@ -32,8 +91,12 @@ impl Lent {
     }
 
     pub fn pointer(&mut self) -> *mut u8 {
-        // The start lies inside the memory, which the pointer may reach on both sides of it.
-        unsafe { self.memory.as_mut_ptr().add(self.start) }
+        let first = match &mut self.memory {
+            Memory::Vector(bytes) => bytes.as_mut_ptr(),
+            Memory::Pages(pages) => pages.pointer(),
+        };
+        // The start lies inside the memory or at its end, and the pointer may reach both sides of it.
+        unsafe { first.add(self.start) }
     }
 
     pub fn length(&self) -> usize {
@@ -41,7 +104,7 @@ impl Lent {
     }
 
     pub fn bytes(&self) -> &[u8] {
-        &self.memory[self.start..self.start + self.length]
+        &self.memory.bytes()[self.start..self.start + self.length]
     }
 
     /// That the buffer holds these bytes, and that nothing beside it is changed.
@@ -64,9 +127,9 @@ impl Lent {
 
     /// That every byte outside the buffer is as before.
     fn outside(&self) -> Result<(), Difference> {
-        let end = self.start + self.length;
-        let mut outside = (0..self.start).chain(end..self.memory.len());
-        match outside.find(|&i| self.memory[i] != self.before[i]) {
+        let (memory, end) = (self.memory.bytes(), self.start + self.length);
+        let mut outside = (0..self.start).chain(end..memory.len());
+        match outside.find(|&i| memory[i] != self.before[i]) {
             Some(place) => Err(Difference::Outside {
                 buffer: self.name,
                 place: place as isize - self.start as isize,
@@ -82,4 +145,60 @@ fn first_difference(expected: &[u8], given: &[u8]) -> Option<usize> {
         return None;
     }
     (0..expected.len()).find(|&i| expected[i] != given[i])
+}
+
+#[cfg(test)]
+mod tests {
+    use super::Lent;
+    use crate::random::Random;
+    use std::os::unix::process::ExitStatusExt;
+    use std::process::Command;
+
+    const SIGSEGV: i32 = 11;
+
+    /// Reads or writes, in this process, one byte at so many from the start of a lent buffer.
+    fn touch(length: usize, at: isize, write: bool) {
+        let mut lent = Lent::new("piece", &vec![7; length], 3, &mut Random::of_case(1, 1));
+        // Outside the buffer this is what no call may do.
+        unsafe {
+            let byte = lent.pointer().wrapping_offset(at);
+            match write {
+                true => byte.write_volatile(1),
+                false => assert!(byte.read_volatile() == 7),
+            }
+        }
+    }
+
+    /// The signal that ends a process of its own which does the same.
+    fn signal(place: &str, length: usize, at: isize, write: bool) -> Option<i32> {
+        let mut child = Command::new(std::env::current_exe().expect("this test's program"));
+        child.args(["--exact", "lent::tests::a_byte_outside_ends_the_process"]);
+        child.env("RCDS_LENT", place);
+        child.env("RCDS_TOUCH", format!("{length} {at} {write}"));
+        let status = child.output().expect("it can be run").status;
+        assert!(status.success() || status.signal().is_some(), "{status}");
+        status.signal()
+    }
+
+    #[test]
+    fn a_byte_outside_ends_the_process() {
+        if let Ok(text) = std::env::var("RCDS_TOUCH") {
+            let words: Vec<&str> = text.split(' ').collect();
+            let (length, at) = (words[0].parse().unwrap(), words[1].parse().unwrap());
+            return touch(length, at, words[2] == "true");
+        }
+        for length in [0, 40, 65_536] {
+            let end = length as isize;
+            for write in [false, true] {
+                assert_eq!(signal("after", length, end, write), Some(SIGSEGV));
+                assert_eq!(signal("before", length, -1, write), Some(SIGSEGV));
+                if length > 0 {
+                    for place in ["after", "before"] {
+                        assert_eq!(signal(place, length, 0, write), None);
+                        assert_eq!(signal(place, length, end - 1, write), None);
+                    }
+                }
+            }
+        }
+    }
 }

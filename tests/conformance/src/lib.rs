@@ -4,11 +4,14 @@
 //! The functions are arguments, so that the comparison itself is tested on functions that are
 //! wrong on purpose. One module for each group of calls.
 
+pub mod campaign;
+pub mod clock;
 pub mod content;
 pub mod failure;
 pub mod lent;
 pub mod messages;
 pub mod openings;
+mod pages;
 pub mod random;
 pub mod replies;
 pub mod sessions;

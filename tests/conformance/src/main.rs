@@ -1,37 +1,75 @@
 //! Compares the calls of the static library with the reference.
 //!
 //!     conformance [GROUP...] [SEED [CASE]]
+//!     conformance [GROUP...] campaign SECONDS SEED
 //!
 //! The groups are `tree`, `trails`, `messages`, `setups`, `replies`, `openings` and `sessions`; none
 //! stands for all that are built in. Without a case it runs all of them, the cases of each on two
 //! threads, and prints a line for each call; it stops at the first that differs. With a case, and then
 //! with one group, it runs that case alone.
 //!
+//! A campaign draws cases of fresh seeds, the first of which is given, for so many seconds, and stops also
+//! at a call that takes longer than a second (not so with RCDS_LENT=heap, which is for valgrind). The words
+//! of the case that runs, with which it is repeated, stand in the file that RCDS_CASE names: the process
+//! itself cannot say them when it is ended. `tests/hostile.sh` runs it. For RCDS_LENT see `src/lent.rs`.
+//!
 //! A group is built in by the feature of its name. All are, unless cargo is told otherwise.
 
-use conformance::failure::Failure;
+use conformance::campaign::{self, Bounds, Group};
+use conformance::lent::{place, Place};
+use std::fs::File;
+use std::os::unix::fs::FileExt;
 use std::process::ExitCode;
+use std::time::Duration;
 
 const SEED: u64 = 20_250_101;
 
-/// Runs a group: all cases of the seed, or one.
-type Run = fn(u64, Option<usize>) -> Result<Vec<String>, Failure>;
+/// How long a call may take in a campaign.
+const LONGEST_CALL: Duration = Duration::from_secs(1);
 
-const GROUPS: &[(&str, Run)] = &[
+const GROUPS: &[Group] = &[
     #[cfg(feature = "tree")]
-    ("tree", tree::run),
+    Group {
+        name: "tree",
+        count: conformance::tree::count,
+        run: tree::run,
+    },
     #[cfg(feature = "trails")]
-    ("trails", trails::run),
+    Group {
+        name: "trails",
+        count: conformance::trails::count,
+        run: trails::run,
+    },
     #[cfg(feature = "messages")]
-    ("messages", messages::run),
+    Group {
+        name: "messages",
+        count: conformance::messages::count,
+        run: messages::run,
+    },
     #[cfg(feature = "setups")]
-    ("setups", setups::run),
+    Group {
+        name: "setups",
+        count: conformance::setups::count,
+        run: setups::run,
+    },
     #[cfg(feature = "replies")]
-    ("replies", replies::run),
+    Group {
+        name: "replies",
+        count: conformance::replies::count,
+        run: replies::run,
+    },
     #[cfg(feature = "openings")]
-    ("openings", openings::run),
+    Group {
+        name: "openings",
+        count: conformance::openings::count,
+        run: openings::run,
+    },
     #[cfg(feature = "sessions")]
-    ("sessions", sessions::run),
+    Group {
+        name: "sessions",
+        count: conformance::sessions::count,
+        run: sessions::run,
+    },
 ];
 
 #[cfg(feature = "tree")]
@@ -303,38 +341,73 @@ mod sessions {
 }
 
 /// The groups of these names, or all. A name that is not built in ends the program.
-fn chosen(names: &[String]) -> Vec<Run> {
-    let group = |name: &String| match GROUPS.iter().find(|(known, _)| known == name) {
-        Some(&(_, run)) => run,
+fn chosen(names: &[String]) -> Vec<Group> {
+    let group = |name: &String| match GROUPS.iter().find(|group| group.name == name) {
+        Some(&group) => group,
         None => panic!("{name}: no group of this name is built in"),
     };
     match names {
-        [] => GROUPS.iter().map(|&(_, run)| run).collect(),
+        [] => GROUPS.to_vec(),
         _ => names.iter().map(group).collect(),
     }
 }
 
-fn main() -> ExitCode {
-    let arguments: Vec<String> = std::env::args().skip(1).collect();
-    let is_number = |text: &String| text.parse::<u64>().is_ok();
-    let names = arguments.iter().take_while(|text| !is_number(text)).count();
-    let number = |text: &String| text.parse::<u64>().expect("a number");
-    let numbers: Vec<u64> = arguments[names..].iter().map(number).collect();
-    let runs = chosen(&arguments[..names]);
-    let seed = numbers.first().copied().unwrap_or(SEED);
-    let case = numbers.get(1).map(|&case| case as usize);
+/// All cases of the seed, or one.
+fn compare(groups: &[Group], seed: u64, case: Option<usize>) -> Result<(), String> {
     assert!(
-        case.is_none() || runs.len() == 1,
+        case.is_none() || groups.len() == 1,
         "a case is one of a group"
     );
-    for run in runs {
-        match run(seed, case) {
-            Ok(lines) => lines.iter().for_each(|line| println!("{line}")),
-            Err(failure) => {
-                println!("{failure}");
-                return ExitCode::FAILURE;
-            }
+    for group in groups {
+        let lines = (group.run)(seed, case).map_err(|failure| failure.to_string())?;
+        lines.iter().for_each(|line| println!("{line}"));
+    }
+    Ok(())
+}
+
+/// Cases of fresh seeds for so many seconds.
+fn campaign(groups: &[Group], seconds: u64, seed: u64) -> Result<(), String> {
+    let file =
+        std::env::var("RCDS_CASE").map(|name| File::create(name).expect("a file for the case"));
+    let begins = |case: &str| {
+        if let Ok(file) = &file {
+            // Blanks cover what is left of a longer one.
+            let line = format!("{case:<60}\n");
+            file.write_all_at(line.as_bytes(), 0)
+                .expect("the case is written");
+        }
+    };
+    let bounds = Bounds {
+        time: Duration::from_secs(seconds),
+        call: (place() != Place::Alone).then_some(LONGEST_CALL),
+    };
+    let lines =
+        campaign::run(groups, seed, &bounds, begins).map_err(|stopped| stopped.to_string())?;
+    lines.iter().for_each(|line| println!("{line}"));
+    Ok(())
+}
+
+fn main() -> ExitCode {
+    let arguments: Vec<String> = std::env::args().skip(1).collect();
+    let is_name = |text: &&String| text.parse::<u64>().is_err();
+    let (names, numbers) = arguments.split_at(arguments.iter().take_while(is_name).count());
+    let number = |text: &String| text.parse::<u64>().expect("a number");
+    let numbers: Vec<u64> = numbers.iter().map(number).collect();
+    let done = match (names, numbers.as_slice()) {
+        ([names @ .., word], &[seconds, seed]) if word == "campaign" => {
+            campaign(&chosen(names), seconds, seed)
+        }
+        (_, numbers) => {
+            let seed = numbers.first().copied().unwrap_or(SEED);
+            let case = numbers.get(1).map(|&case| case as usize);
+            compare(&chosen(names), seed, case)
+        }
+    };
+    match done {
+        Ok(()) => ExitCode::SUCCESS,
+        Err(words) => {
+            println!("{words}");
+            ExitCode::FAILURE
         }
     }
-    ExitCode::SUCCESS
 }

@@ -1,6 +1,7 @@
 //! One call and one comparison.
 
 use super::cases::Case;
+use crate::clock::timed;
 use crate::failure::{Difference, Failure};
 use crate::lent::Lent;
 use crate::random::Random;
@@ -24,8 +25,8 @@ pub fn compare(case: &Case, function: MessageType) -> Result<u64, Failure> {
 fn call(case: &Case, function: MessageType) -> Result<u64, Difference> {
     let mut random = Random::of_case(case.seed ^ 1, case.number);
     let mut message = Lent::new("message", &case.message, case.shift, &mut random);
-    // The message is there in full, inside a vector.
-    let given = unsafe { function(message.pointer(), message.length()) };
+    // The message is there in full, in memory of its own.
+    let given = timed(|| unsafe { function(message.pointer(), message.length()) });
     let expected = rcds_message_type(&case.message);
     if given != expected {
         return Err(Difference::Answer { expected, given });

@@ -9,6 +9,7 @@ pub(crate) mod valid;
 #[cfg(test)]
 mod faults;
 
+pub use cases::count;
 pub use compare::MessageType;
 
 use crate::failure::Failure;

@@ -1,6 +1,7 @@
 //! One call and one comparison.
 
 use super::cases::Case;
+use crate::clock::timed;
 use crate::failure::{Difference, Failure};
 use crate::lent::Lent;
 use crate::random::Random;
@@ -46,8 +47,8 @@ fn call(case: &Case, function: SketchOpen) -> Result<Done, Difference> {
     let mut theirs = Lent::new("sender's cell table", &case.theirs, of_theirs, random);
     let mut own = Lent::new("own cell table", &case.own, of_own, random);
     let mut shingles = Lent::new("shingle table", &case.shingles, of_shingles, random);
-    // All pieces are there in full, and they do not overlap: each is a vector of its own.
-    let given = unsafe {
+    // All pieces are there in full, and they do not overlap: each stands in memory of its own.
+    let given = timed(|| unsafe {
         function(
             case.levels,
             case.width,
@@ -58,7 +59,7 @@ fn call(case: &Case, function: SketchOpen) -> Result<Done, Difference> {
             shingles.pointer(),
             shingles.length(),
         )
-    };
+    });
     let mut expected_shingles = case.shingles.clone();
     let expected = rcds_sketch_open(
         case.levels,

@@ -9,6 +9,7 @@ mod report;
 #[cfg(test)]
 mod faults;
 
+pub use cases::count;
 pub use compare::SketchOpen;
 
 use crate::failure::Failure;

@@ -2,6 +2,7 @@
 
 use super::cases::Case;
 use super::setup::held;
+use crate::clock::timed;
 use crate::failure::{Difference, Failure};
 use crate::lent::Lent;
 use crate::random::Random;
@@ -81,8 +82,8 @@ fn call(case: &Case, function: Reply) -> Result<Done, Difference> {
     let mut cells = Lent::new("cell table", &case.lent.cells, of_cells, random);
     let mut message = Lent::new("message", &case.message, of_message, random);
     let mut out = Lent::new("buffer", &before, of_out, random);
-    // All pieces are there in full, and they do not overlap: each is a vector of its own.
-    let given = unsafe {
+    // All pieces are there in full, and they do not overlap: each stands in memory of its own.
+    let given = timed(|| unsafe {
         function(
             state.pointer(),
             state.length(),
@@ -99,7 +100,7 @@ fn call(case: &Case, function: Reply) -> Result<Done, Difference> {
             out.pointer(),
             out.length(),
         )
-    };
+    });
     let (settings, width) = held(&case.state);
     let mut expected_out = before.clone();
     let expected = reply(

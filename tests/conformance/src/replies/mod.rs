@@ -10,6 +10,7 @@ pub(crate) mod setup;
 #[cfg(test)]
 mod faults;
 
+pub use cases::count;
 pub use compare::Reply;
 
 use crate::failure::Failure;

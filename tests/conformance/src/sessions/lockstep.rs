@@ -4,6 +4,7 @@
 use super::calls::Calls;
 use super::counts::{Call, Counts};
 use super::end::{piece, End};
+use crate::clock::timed;
 use crate::failure::Difference;
 use crate::lent::Lent;
 use crate::random::Random;
@@ -105,8 +106,8 @@ impl<'a> Lockstep<'a> {
 
     pub fn set_up_sender(&mut self, settings: &Settings, width: u64) -> Outcome<u64> {
         let end = &mut self.sender;
-        // All pieces are there in full, and they do not overlap: each is a vector of its own.
-        let given = unsafe {
+        // All pieces are there in full, and they do not overlap: each stands in memory of its own.
+        let given = timed(|| unsafe {
             (self.calls.sender_setup)(
                 settings.window,
                 settings.fan_out,
@@ -124,7 +125,7 @@ impl<'a> Lockstep<'a> {
                 end.state.pointer(),
                 end.state.length(),
             )
-        };
+        });
         let memory = &mut end.memory;
         let expected = rcds::rcds_sender_setup(
             settings,
@@ -147,7 +148,7 @@ impl<'a> Lockstep<'a> {
     ) -> Outcome<u64> {
         let end = &mut self.receiver;
         // As above.
-        let given = unsafe {
+        let given = timed(|| unsafe {
             (self.calls.receiver_setup)(
                 settings.window,
                 settings.fan_out,
@@ -166,7 +167,7 @@ impl<'a> Lockstep<'a> {
                 end.state.pointer(),
                 end.state.length(),
             )
-        };
+        });
         let (memory, state) = (&mut end.memory, &mut end.state_bytes);
         let expected = rcds::rcds_receiver_setup(settings, width, session, memory, state);
         let rest = end.expect();
@@ -180,7 +181,7 @@ impl<'a> Lockstep<'a> {
         let mut lent = piece("message", message, &mut self.random);
         let end = &mut self.sender;
         // As above.
-        let given = unsafe {
+        let given = timed(|| unsafe {
             (self.calls.reply)(
                 end.state.pointer(),
                 end.state.length(),
@@ -197,7 +198,7 @@ impl<'a> Lockstep<'a> {
                 out.pointer(),
                 out.length(),
             )
-        };
+        });
         let (settings, width) = held(&end.state_bytes);
         let expected = reply(&settings, width, &end.memory, message, &mut expected_out);
         let rest = out.expect(&expected_out);
@@ -220,7 +221,7 @@ impl<'a> Lockstep<'a> {
         self.keep_rows();
         let end = &mut self.receiver;
         // As above.
-        let given = unsafe {
+        let given = timed(|| unsafe {
             (self.calls.query)(
                 end.state.pointer(),
                 end.state.length(),
@@ -235,7 +236,7 @@ impl<'a> Lockstep<'a> {
                 out.pointer(),
                 out.length(),
             )
-        };
+        });
         let expected = rcds::rcds_query(&end.state_bytes, &end.memory, &mut expected_out);
         let rest = out.expect(&expected_out).and_then(|()| end.expect());
         let answer = self.compared(Call::Query, (expected, given), &[], rest)?;
@@ -252,7 +253,7 @@ impl<'a> Lockstep<'a> {
         self.keep_rows();
         let (end, output) = (&mut self.receiver, &mut self.output);
         // As above.
-        let given = unsafe {
+        let given = timed(|| unsafe {
             (self.calls.take)(
                 end.state.pointer(),
                 end.state.length(),
@@ -269,7 +270,7 @@ impl<'a> Lockstep<'a> {
                 output.pointer(),
                 output.length(),
             )
-        };
+        });
         let (state, memory) = (&mut end.state_bytes, &mut end.memory);
         let expected = rcds::rcds_take(state, memory, message, &mut self.output_bytes);
         if expected == 0 {

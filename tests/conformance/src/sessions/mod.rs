@@ -16,6 +16,7 @@ mod strings;
 mod faults;
 
 pub use calls::{Calls, Query, ReceiverSetup, Take};
+pub use cases::count;
 
 use crate::failure::Failure;
 

@@ -1,6 +1,7 @@
 //! One call and one comparison.
 
 use super::cases::Case;
+use crate::clock::timed;
 use crate::failure::{Difference, Failure};
 use crate::lent::Lent;
 use crate::random::Random;
@@ -61,8 +62,8 @@ fn call(case: &Case, function: SenderSetup) -> Result<Done, Difference> {
     let mut state = Lent::new("state", &expected_state, shifts.state, random);
 
     let settings = &case.settings;
-    // All pieces are there in full, and they do not overlap: each is a vector of its own.
-    let given = unsafe {
+    // All pieces are there in full, and they do not overlap: each stands in memory of its own.
+    let given = timed(|| unsafe {
         function(
             settings.window,
             settings.fan_out,
@@ -80,7 +81,7 @@ fn call(case: &Case, function: SenderSetup) -> Result<Done, Difference> {
             state.pointer(),
             state.length(),
         )
-    };
+    });
 
     let expected = rcds_sender_setup(
         settings,

@@ -7,6 +7,7 @@ mod report;
 #[cfg(test)]
 mod faults;
 
+pub use cases::count;
 pub use compare::SenderSetup;
 
 use crate::failure::Failure;

@@ -2,6 +2,7 @@
 //! where it was accepted, the other one with what it answered.
 
 use super::cases::{Case, Lent as LentCase};
+use crate::clock::timed;
 use crate::failure::{Difference, Failure};
 use crate::lent::Lent;
 use crate::random::Random;
@@ -112,8 +113,8 @@ fn shift(random: &mut Random) -> usize {
 
 fn call_number(ids: &[u8], function: TrailNumber, random: &mut Random) -> Result<u64, Difference> {
     let mut lent = Lent::new("ids", ids, shift(random), random);
-    // The ids are there in full, inside a vector.
-    let given = unsafe { function(lent.pointer(), lent.length()) };
+    // The ids are there in full, in memory of their own.
+    let given = timed(|| unsafe { function(lent.pointer(), lent.length()) });
     let expected = rcds_trail_number(ids);
     if given != expected {
         return Err(Difference::Answer { expected, given });
@@ -133,8 +134,8 @@ fn call_order(
     let before = random.bytes(room);
     let mut lent_pairs = Lent::new("pairs", pairs, shift(random), random);
     let mut lent_ids = Lent::new("ids", &before, shift(random), random);
-    // Both pieces are there in full, and they do not overlap: each is a vector of its own.
-    let given = unsafe {
+    // Both pieces are there in full, and they do not overlap: each stands in memory of its own.
+    let given = timed(|| unsafe {
         function(
             lent_pairs.pointer(),
             lent_pairs.length(),
@@ -142,7 +143,7 @@ fn call_order(
             lent_ids.pointer(),
             lent_ids.length(),
         )
-    };
+    });
     let mut ids = before;
     let expected = rcds_trail_order(pairs, number, &mut ids);
     if given != expected {

@@ -8,6 +8,7 @@ mod report;
 #[cfg(test)]
 mod faults;
 
+pub use cases::count;
 pub use compare::{Calls, TrailNumber, TrailOrder};
 
 use crate::failure::Failure;

@@ -1,6 +1,7 @@
 //! One call and one comparison.
 
 use super::cases::Case;
+use crate::clock::timed;
 use crate::failure::{Difference, Failure};
 use crate::lent::Lent;
 use crate::random::Random;
@@ -26,8 +27,8 @@ fn call(case: &Case, function: Tree) -> Result<u64, Difference> {
     let mut table = Lent::new("node table", &before, case.table_shift, &mut random);
 
     let settings = &case.settings;
-    // Both pieces are there in full, and they do not overlap: each is a vector of its own.
-    let given = unsafe {
+    // Both pieces are there in full, and they do not overlap: each stands in memory of its own.
+    let given = timed(|| unsafe {
         function(
             settings.window,
             settings.fan_out,
@@ -38,7 +39,7 @@ fn call(case: &Case, function: Tree) -> Result<u64, Difference> {
             table.pointer(),
             table.length(),
         )
-    };
+    });
 
     let mut expected_table = before;
     let expected = reference::rcds::rcds_tree(settings, &case.string, &mut expected_table);

@@ -7,6 +7,7 @@ mod report;
 #[cfg(test)]
 mod faults;
 
+pub use cases::count;
 pub use compare::Tree;
 
 use crate::failure::Failure;
