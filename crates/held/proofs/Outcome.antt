@@ -2,7 +2,7 @@
 use mathlib.Core.Bool.{Bool, true, false, _&&_, false≢true}
 use mathlib.Core.List.{List, _++_}
 use mathlib.Core.Path.{_≡_, refl, sym, ap, subst, _∙_}
-use Prim.Native.Nat.{ℕ, _+_, _*_, _-_, _%_, _^_, _≤_, _<_}
+use Prim.Native.Nat.{ℕ, _+_, _-_, _%_, _^_, _≤_, _<_}
 use native.Mathlib.Nat.{suc-ne-zero}
 use native.Mathlib.Omega.{arith}
 use native.Mathlib.Decide.{decLt}
@@ -11,16 +11,15 @@ use lib.Dec.{leb, ltb}
 use lib.ListN.{length, drop, length-append, length-drop}
 use lib.Seq.{drop-at}
 use Rattle.tree.specs.declared.Settings.{Settings}
-use Rattle.tree.specs.Questions.{ask, within, refusal}
+use Rattle.tree.specs.Questions.{ask, refusal}
 use Rattle.shingle.proofs.PairOrder.{and-true}
 use Rattle.sketch.specs.Sums.{rowBytes}
-use Rattle.sketch.proofs.Sums.{length-rows}
-use Rattle.setup.specs.Questions.{tablesFit, lentRefusal, refusalOf, setupRefusal, setupAnswer}
-use Rattle.setup.specs.Tables.{setupTable, SetUp}
+use Rattle.setup.specs.Questions.{tablesFit, lentRefusal}
+use Rattle.setup.specs.Tables.{SetUp}
 use Rattle.setup.proofs.Questions.{refused-settings, asked, lent-small}
 use Rattle.setup.proofs.Outcome.{refused}
 use Rattle.setup.proofs.Accepted.{yes-answer, no-answer}
-use Rattle.protocol.specs.Lent.{lent, refusedBy}
+use Rattle.protocol.specs.Lent.{lent}
 use Rattle.protocol.specs.State.{initial}
 use Rattle.protocol.specs.Receiver.{Result, numberOf, unchanged, takeMessage}
 use Rattle.state.specs.declared.Receiver.{Receiver}
@@ -29,7 +28,7 @@ use Rattle.state.specs.Receivers.{phaseOf, idle, stateOf}
 use Rattle.state.specs.Bytes.{stateIn, stateRows, Stores}
 use Rattle.receiver.specs.declared.Taken.{Taken}
 use Rattle.receiver.specs.Calls.{stateAfter, ReceiverSetUp, Takes, Asked}
-use Rattle.held.specs.Held.{decode, bytesAfter, HeldSetUp, Leaves, HeldTakes}
+use Rattle.held.specs.Held.{decode, bytesAfter, HeldSetUp, HeldTakes}
 
 -- A state of fewer than 2,144 bytes is refused by 1.
 short-refused : (state string nodes shingles cells message output : List ℕ) → length state < 2144

@@ -5,20 +5,18 @@ use mathlib.Core.Path.{_≡_, sym, ap, subst, _∙_}
 use Prim.Native.Nat.{ℕ, _+_, _^_, _≤_, _<_}
 use native.Mathlib.Omega.{arith}
 use native.Mathlib.Decide.{decLt}
-use lib.ListN.{length, drop}
-use Rattle.protocol.specs.Lent.{Lent, withOutput, withShingles}
-use Rattle.protocol.specs.State.{State, over, going}
-use Rattle.protocol.specs.Receiver.{Settled, tooLong, left, Result, result, refused, handed, waiting, numberOf, conclude}
-use Rattle.protocol.proofs.Cases.{either}
+use lib.ListN.{length}
+use Rattle.protocol.specs.State.{over, going}
+use Rattle.protocol.specs.Receiver.{Settled, tooLong, left, Result, refused, handed, waiting, numberOf}
 use Rattle.copying.specs.declared.Waiting.{Waiting}
-use Rattle.copying.specs.Copying.{pileOf, settledFrom}
+use Rattle.copying.specs.Copying.{settledFrom}
 use Rattle.handover.specs.declared.Outcome.{Outcome}
 use Rattle.handover.specs.Handover.{whole, answerOf, Concluded}
 use Rattle.handover.proofs.Outcomes.{refuses, hands, goes-on}
 use Rattle.state.specs.declared.Receiver.{Receiver}
 use Rattle.state.specs.Receivers.{stateOf, Ends, Goes}
 use Rattle.receiver.specs.declared.Taken.{Taken}
-use Rattle.receiver.specs.Steps.{Concludes, Advanced}
+use Rattle.receiver.specs.Steps.{Advanced}
 
 abbrev taking : ℕ → Receiver → Taken
 taking answer state = record { answer = answer; state = state }

@@ -1,7 +1,7 @@
 -- Taking a composition: 17, 18, or the children take the node's place.
-use mathlib.Core.Bool.{Bool, true, false, cond, _&&_}
-use mathlib.Core.List.{List, [], _∷_, _++_, map, append-nil}
-use mathlib.Core.Path.{_≡_, refl, sym, ap, subst, _∙_}
+use mathlib.Core.Bool.{Bool, true, false}
+use mathlib.Core.List.{List, [], _++_, append-nil}
+use mathlib.Core.Path.{_≡_, refl, sym, ap, _∙_}
 use Prim.Native.Nat.{ℕ, _+_, _-_, _≤_, _<_}
 use native.Mathlib.Omega.{arith}
 use borrow.Author.Tests.{le-leb, lt-leb}
@@ -14,7 +14,7 @@ use Rattle.message.specs.Parts.{referencesIn}
 use Rattle.protocol.specs.Lent.{Lent, lent}
 use Rattle.protocol.specs.Nodes.{look}
 use Rattle.protocol.specs.State.{Pending, pending}
-use Rattle.protocol.specs.Receiver.{ends, settle, conclude, composes, children, below, nodeRefusal, takeNode, act}
+use Rattle.protocol.specs.Receiver.{settle, conclude, composes, children, below, nodeRefusal, takeNode, act}
 use Rattle.copying.specs.declared.Waiting.{Waiting}
 use Rattle.copying.specs.Copying.{pileOf, settledFrom}
 use Rattle.composition.specs.declared.Children.{Children}

@@ -1,7 +1,7 @@
 -- What was read and said is what the message is, and whether it fits is question 11.
-use mathlib.Core.Bool.{Bool, true, false, cond, _&&_, false≢true}
+use mathlib.Core.Bool.{Bool, true, false, _&&_}
 use mathlib.Core.List.{List}
-use mathlib.Core.Option.{Option, none, some}
+use mathlib.Core.Option.{none, some}
 use mathlib.Core.Path.{_≡_, refl, sym, ap, _∙_}
 use Prim.Native.Nat.{ℕ, _≤_, _<_}
 use native.Mathlib.Omega.{arith}
@@ -14,7 +14,7 @@ use Rattle.shingle.proofs.PairOrder.{and-true}
 use Rattle.message.specs.Words.{linkWords, referenceWord}
 use Rattle.message.specs.Fields.{valuesOf, manyFrom, textFrom}
 use Rattle.message.specs.Messages.{Msg, openingQuery, nodeQuery, opening, composition, literal, typeOf, cellValues, parse}
-use Rattle.message.specs.Reading.{meant, Counted, Reads}
+use Rattle.message.specs.Reading.{Reads}
 use Rattle.message.specs.Parts.{cellsIn, referencesIn, bytesIn}
 use Rattle.message.specs.declared.Message.{Message}
 use Rattle.message.specs.declared.Message.the-variants.{Bad, OpeningQuery, NodeQuery, Opening, Composition, Literal, NoNode}

@@ -1,5 +1,5 @@
 -- Taking a literal: 18, or its bytes go to the end of what is built.
-use mathlib.Core.Bool.{Bool, true, false, cond, _&&_}
+use mathlib.Core.Bool.{true, false}
 use mathlib.Core.List.{List, [], _++_, append-nil, append-assoc}
 use mathlib.Core.Path.{_≡_, refl, sym, ap, _∙_}
 use Prim.Native.Nat.{ℕ, _+_, _-_, _≤_, _<_}
@@ -12,9 +12,7 @@ use Rattle.tree.specs.Questions.{ask}
 use Rattle.message.specs.Parts.{bytesIn, Copied}
 use Rattle.protocol.specs.Lent.{Lent, lent}
 use Rattle.protocol.specs.Nodes.{look}
-use Rattle.protocol.specs.State.{Pending}
-use Rattle.protocol.specs.Receiver.{settle, conclude, nodeRefusal, takeNode, act}
-use Rattle.copying.specs.declared.Waiting.{Waiting}
+use Rattle.protocol.specs.Receiver.{settle, conclude, takeNode, act}
 use Rattle.copying.specs.Copying.{pileOf, settledFrom}
 use Rattle.state.specs.declared.Receiver.{Receiver}
 use Rattle.state.specs.Receivers.{stateOf}

@@ -1,6 +1,6 @@
 -- What taking a node reply comes to: refused before its content is looked at, or by what the content decides.
-use mathlib.Core.Bool.{Bool, true, false, cond, not, _&&_, false≢true}
-use mathlib.Core.List.{List, [], _∷_, _++_}
+use mathlib.Core.Bool.{Bool, true, false, not, _&&_, false≢true}
+use mathlib.Core.List.{List, [], _++_}
 use mathlib.Core.Option.{Option, some}
 use mathlib.Core.Path.{_≡_, refl, sym, ap, subst, _∙_}
 use Prim.Native.Nat.{ℕ, zero, suc, _+_, _-_, _^_, _≤_, _<_}
@@ -12,10 +12,10 @@ use lib.ListN.{length, drop}
 use Rattle.tree.specs.Questions.{ask}
 use Rattle.shingle.specs.Table.{shinglesIn}
 use Rattle.shingle.proofs.PairOrder.{and-true}
-use Rattle.message.specs.Messages.{Msg, composition, literal, noNode, parse}
+use Rattle.message.specs.Messages.{Msg, composition, literal}
 use Rattle.message.specs.Parts.{referencesIn, bytesIn}
 use Rattle.protocol.specs.Lent.{Lent, lent}
-use Rattle.protocol.specs.State.{State, Pending, over}
+use Rattle.protocol.specs.State.{State, Pending}
 use Rattle.protocol.specs.Receiver.{Result, refused, numberOf, ends, composes, children, below, nodeRefusal, takeNode, act, conclude}
 use Rattle.copying.specs.declared.Waiting.{Waiting}
 use Rattle.copying.specs.Copying.{pileOf, settledFrom}
@@ -23,7 +23,7 @@ use Rattle.state.specs.declared.Receiver.{Receiver}
 use Rattle.state.specs.Receivers.{stateOf}
 use Rattle.receiver.specs.declared.Taken.{Taken}
 use Rattle.receiver.specs.declared.heard.Said.{Said}
-use Rattle.receiver.specs.Heard.{given, messageIn, NodeReply}
+use Rattle.receiver.specs.Heard.{given, messageIn}
 use Rattle.receiver.specs.Steps.{Ended, Concludes, Advanced, earlyRefusal, NodeSaid, ContentSaid, NodeTaken}
 
 -- A result that ends the session.

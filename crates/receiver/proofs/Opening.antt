@@ -1,26 +1,26 @@
 -- What taking an opening comes to.
-use mathlib.Core.Bool.{Bool, true, false, cond}
+use mathlib.Core.Bool.{Bool, true, false}
 use mathlib.Core.List.{List, [], _∷_}
-use mathlib.Core.Option.{Option, some}
+use mathlib.Core.Option.{Option}
 use mathlib.Core.Path.{_≡_, refl, sym, ap, subst, _∙_}
-use Prim.Native.Nat.{ℕ, _+_, _^_, _≤_, _<_}
+use Prim.Native.Nat.{ℕ, _^_, _≤_, _<_}
 use native.Mathlib.Omega.{arith}
 use native.Mathlib.Decide.{decLt}
 use borrow.Author.Tests.{le-leb, eq-eqb}
-use lib.ListN.{length, take, replicate}
+use lib.ListN.{length, take}
 use Rattle.tree.specs.Questions.{ask}
 use Rattle.shingle.specs.Table.{shinglesIn}
 use Rattle.sketch.specs.Opening.{newList}
 use Rattle.single.specs.Peeling.{listTable}
 use Rattle.opening.specs.Renewing.{Renewed}
-use Rattle.message.specs.Messages.{Msg, parse}
+use Rattle.message.specs.Messages.{Msg}
 use Rattle.message.specs.Parts.{cellsIn}
-use Rattle.protocol.specs.Lent.{Lent, lent, refusedBy}
+use Rattle.protocol.specs.Lent.{Lent, lent}
 use Rattle.protocol.specs.Nodes.{look}
-use Rattle.protocol.specs.State.{State, pending, over}
-use Rattle.protocol.specs.Receiver.{Result, Settled, result, refused, numberOf, ends, find, settle, conclude, peeledOf, openingRefusal, takeOpening, act}
+use Rattle.protocol.specs.State.{pending}
+use Rattle.protocol.specs.Receiver.{Result, refused, numberOf, ends, settle, conclude, peeledOf, openingRefusal, takeOpening, act}
 use Rattle.copying.specs.declared.Waiting.{Waiting}
-use Rattle.copying.specs.Copying.{pileOf, settledFrom}
+use Rattle.copying.specs.Copying.{settledFrom}
 use Rattle.announced.specs.Judging.{Judged}
 use Rattle.announced.proofs.Received.{Heard, heard, refusal-is, table-is, length-fits, opening-refused}
 use Rattle.state.specs.declared.Receiver.{Receiver}
@@ -28,7 +28,7 @@ use Rattle.state.specs.Receivers.{stateOf}
 use Rattle.receiver.specs.declared.Taken.{Taken}
 use Rattle.receiver.specs.declared.heard.Announced.{Announced}
 use Rattle.receiver.specs.Heard.{given, messageIn}
-use Rattle.receiver.specs.Steps.{Gives, Ended, Concludes, Advanced, Rooted, OpeningSaid, OpeningTaken}
+use Rattle.receiver.specs.Steps.{Ended, Concludes, Advanced, Rooted, OpeningSaid, OpeningTaken}
 
 -- The root alone is what copying starts with.
 root-settled : (string nodes : List ℕ) (size root : ℕ) (output : List ℕ) (places : List Waiting) → size ≤ length output → Rooted root places

@@ -1,22 +1,21 @@
 -- Each way out of taking a message is a case of the definition; so are those of writing the query and of setting up.
-use mathlib.Core.Bool.{Bool, true, false, cond}
+use mathlib.Core.Bool.{true, false}
 use mathlib.Core.List.{List, []}
-use mathlib.Core.Option.{Option, none, some}
+use mathlib.Core.Option.{none, some}
 use mathlib.Core.Path.{_≡_, refl, sym, ap, _∙_}
-use Prim.Native.Nat.{ℕ, _+_, _^_, _≤_, _<_}
+use Prim.Native.Nat.{ℕ, _^_, _≤_, _<_}
 use native.Mathlib.Omega.{arith}
 use borrow.Author.Tests.{eq-eqb, ne-eqb}
-use lib.ListN.{length}
 use Rattle.tree.specs.declared.Settings.{Settings}
 use Rattle.tree.proofs.Questions.{granted}
-use Rattle.setup.specs.Questions.{tablesFit, lentRefusal, setupRefusal}
+use Rattle.setup.specs.Questions.{tablesFit, lentRefusal}
 use Rattle.setup.specs.Tables.{SetUp}
 use Rattle.setup.proofs.Questions.{lent as lent-passed}
 use Rattle.setup.proofs.Accepted.{yes-answer, no-answer}
-use Rattle.message.specs.Messages.{Msg, parse}
-use Rattle.protocol.specs.Lent.{Lent, lent, refusedBy}
+use Rattle.message.specs.Messages.{parse}
+use Rattle.protocol.specs.Lent.{lent, refusedBy}
 use Rattle.protocol.specs.State.{running, outstanding}
-use Rattle.protocol.specs.Receiver.{Result, numberOf, unchanged, matches, act, hear, takeMessage, querying, writeQuery}
+use Rattle.protocol.specs.Receiver.{Result, numberOf, unchanged, matches, act, hear, takeMessage, writeQuery}
 use Rattle.state.specs.declared.Receiver.{Receiver}
 use Rattle.state.specs.Receivers.{stateOf, Starts}
 use Rattle.state.specs.Asking.{Queried}

@@ -1,5 +1,4 @@
 // What follows an accepted message: own nodes are copied, and the session goes on or is over.
-ghost use mathlib.Core.Path.{_≡_};
 ghost use Rattle.receiver.specs.Steps.{Ended, Advanced};
 use crate::Taken;
 use copying::Waiting;

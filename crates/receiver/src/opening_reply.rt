@@ -1,5 +1,4 @@
 // Taking an opening: questions 12 to 14, then the root is the pending node.
-ghost use Prim.Native.Nat.{_≤_};
 ghost use Rattle.receiver.specs.Steps.{Rooted, OpeningSaid, OpeningTaken};
 use crate::Taken;
 use crate::advance::advance;

@@ -1,10 +1,9 @@
 -- Each way out, by the question that was asked last.
-use mathlib.Core.Path.{_≡_, sym, ap, subst, _∙_}
+use mathlib.Core.Path.{sym, ap, subst, _∙_}
 use Prim.Native.Nat.{_≤_}
 use borrow.Author.Tests.{not-true, not-false}
 use Rattle.receiver.specs.declared.heard.Said.{Said}
-use Rattle.receiver.specs.declared.heard.Announced.{Announced}
-use Rattle.receiver.specs.Heard.{saidBy, announcedOf, fitting, NodeReply, OpeningReply}
+use Rattle.receiver.specs.Heard.{NodeReply, OpeningReply}
 use Rattle.receiver.proofs.Hearing.{not-formed, formed-said, opening-heard, node-heard, still-runs, fits-said, node-fits, node-waits}
 use Rattle.receiver.proofs.Taking.{few-levels, take-seven, take-nine, take-ten, take-eleven, take-opening, take-node}
 use borrow.Author.Needs.{needs}
