@@ -18,6 +18,7 @@ pub mod rcds;
 pub mod receiver;
 pub mod receiver_state;
 pub mod reply;
+pub mod row;
 pub mod sender;
 pub mod settings;
 pub mod shingle;

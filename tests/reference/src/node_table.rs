@@ -3,6 +3,7 @@
 //! An entry is two rows of 64 bits, most significant byte first. Row 0 is the id, row 1 is
 //! level + 8 × (length + 2^17 × start).
 
+use crate::row::number;
 use crate::tree::Node;
 
 /// The bytes of one entry.
@@ -19,17 +20,12 @@ pub fn entry(node: &Node) -> [u8; ENTRY_BYTES] {
 
 /// The node that an entry's bytes stand for, whatever they are.
 pub fn node(entry: &[u8; ENTRY_BYTES]) -> Node {
-    let row = |bytes: &[u8]| {
-        bytes
-            .iter()
-            .fold(0, |row, &byte| row * 256 + u64::from(byte))
-    };
-    let place = row(&entry[8..]);
+    let place = number(&entry[8..]);
     Node {
         level: place % 8,
         length: (place / 8 % (1 << 17)) as usize,
         start: (place / 8 / (1 << 17) % (1 << 17)) as usize,
-        id: row(&entry[..8]),
+        id: number(&entry[..8]),
     }
 }
 

@@ -9,6 +9,7 @@ use crate::opening::open;
 use crate::questions;
 use crate::receiver::{self, Answer};
 use crate::receiver_state::{self, ended};
+use crate::row::number;
 use crate::settings::Settings;
 use crate::shingle::shingles;
 use crate::sketch::sketch;
@@ -58,8 +59,7 @@ pub const PAIR_BYTES: usize = 24;
 
 /// Bytes as rows of 64 bits, most significant byte first, if they are whole rows.
 fn rows(bytes: &[u8]) -> Option<Vec<u64>> {
-    let row = |bytes: &[u8]| u64::from_be_bytes(bytes.try_into().expect("a row has 8 bytes"));
-    (bytes.len() % 8 == 0).then(|| bytes.chunks(8).map(row).collect())
+    (bytes.len() % 8 == 0).then(|| bytes.chunks(8).map(number).collect())
 }
 
 /// `rcds_trail_number`: the trail number of an order of ids. Asks 17.

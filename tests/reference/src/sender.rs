@@ -1,21 +1,25 @@
-//! A sender's state: the settings that its calls hold.
+//! The state of a sender: the settings it holds.
 
 use crate::settings::Settings;
 
-/// The bytes of a state.
+/// Five settings, 8 bytes each.
 pub const STATE_BYTES: usize = 40;
 
-/// Writes w, p, L, M and q to the front of the state, each a row of 64 bits, most significant byte
-/// first. What is lent after them is untouched.
+/// "Settings: window w, fan-out p, levels L, nominal length M, sketch width q."
+///
+/// In this order to the front of the state, each a row of 64 bits, most significant byte first.
+/// They are "the settings it holds", which every later call asks 1 to 7 of again. What is lent
+/// after them is untouched. The state is at least 40 bytes.
 pub fn write(settings: &Settings, width: u64, state: &mut [u8]) {
-    let rows = [
+    assert!(state.len() >= STATE_BYTES);
+    let held = [
         settings.window,
         settings.fan_out,
         settings.levels,
         settings.nominal,
         width,
     ];
-    for (row, bytes) in rows.iter().zip(state.chunks_exact_mut(8)) {
-        bytes.copy_from_slice(&row.to_be_bytes());
+    for (i, number) in held.iter().enumerate() {
+        state[8 * i..8 * i + 8].copy_from_slice(&number.to_be_bytes());
     }
 }

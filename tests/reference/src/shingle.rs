@@ -1,10 +1,13 @@
-//! Shingles: which block stands to the left of which, level by level.
+//! The shingles of a tree: which node stands to the left of which, and how often.
 
 use crate::tree::Node;
-use std::collections::BTreeMap;
 
-/// "A shingle ... is previous id, own id, level, count." The fields stand in the order in which
-/// lists are sorted; the count decides last, where a list has a pair twice.
+/// "A shingle (001, Table I, which writes count before level) is previous id, own id, level,
+/// count."
+///
+/// The fields stand in the order that lists are sorted by: "The list is sorted by level, previous
+/// id, own id, unsigned". A list of a tree has no two that only the count tells apart; where a
+/// forged one has, the count decides last.
 #[derive(Clone, Copy, Debug, PartialEq, Eq, PartialOrd, Ord)]
 pub struct Shingle {
     pub level: u64,
@@ -13,57 +16,82 @@ pub struct Shingle {
     pub count: u64,
 }
 
-/// A pair at its level: level, previous id, own id.
+/// "the pair (id of its left sibling, own id) at its level": level, previous id, own id.
 pub type Pair = (u64, u64, u64);
 
 impl Shingle {
+    /// The pair that the count is of.
     pub fn pair(&self) -> Pair {
         (self.level, self.previous, self.own)
     }
 
     /// "tail = level × 65,536 + count"
+    ///
+    /// Modulo 2^64, like the sums that it goes into. A level of 2^32 / 65,536 or more, which only
+    /// a forged entry has, makes a tail that is not below 2^32.
     pub fn tail(&self) -> u64 {
-        self.level * 65_536 + self.count
+        self.level.wrapping_mul(65_536).wrapping_add(self.count)
     }
 }
 
-/// The blocks of node k, from the left: what is listed after it and before the next node that is
-/// not deeper, one level down.
+/// The children of node k of a tree's list, from the left.
+///
+/// "Nodes are listed each before its children, and a child with all its descendants before its
+/// next sibling, from the left." So what descends from node k is listed after it and before the
+/// next node that is not deeper; of those, the children are the ones one level down.
 pub fn children(nodes: &[Node], k: usize) -> Vec<Node> {
+    let parent = nodes[k];
+    let mut children = Vec::new();
+    for node in &nodes[k + 1..] {
+        if node.level <= parent.level {
+            break;
+        }
+        if node.level - parent.level == 1 {
+            children.push(*node);
+        }
+    }
+    children
+}
+
+/// The id that node k of a tree's list has for its left sibling.
+///
+/// "a first child and the root have 0 for the sibling"
+///
+/// Of the nodes listed before it, those deeper than node k descend from its left sibling. The
+/// nearest one that is not deeper is that sibling, if it is of the same level; if it is one level
+/// up, it is the parent, and node k its first child. Before the root nothing is listed.
+fn left_sibling_id(nodes: &[Node], k: usize) -> u64 {
     let level = nodes[k].level;
-    let below = nodes[k + 1..].iter().take_while(|node| node.level > level);
-    below
-        .filter(|node| node.level == level + 1)
-        .copied()
-        .collect()
+    let nearest = nodes[..k].iter().rev().find(|node| node.level <= level);
+    match nearest {
+        Some(node) if node.level == level => node.id,
+        _ => 0,
+    }
 }
 
 /// "Each node gives the pair (id of its left sibling, own id) at its level; a first child and the
 /// root have 0 for the sibling."
+///
+/// In the order of the nodes, one pair for each.
 pub fn pairs(nodes: &[Node]) -> Vec<Pair> {
-    let mut pairs = vec![(0, 0, nodes[0].id)];
-    for k in 0..nodes.len() {
-        let mut sibling = 0;
-        for child in children(nodes, k) {
-            pairs.push((child.level, sibling, child.id));
-            sibling = child.id;
-        }
-    }
-    pairs
+    let pair = |k: usize| (nodes[k].level, left_sibling_id(nodes, k), nodes[k].id);
+    (0..nodes.len()).map(pair).collect()
 }
 
-/// "Count is how many nodes of the level give that pair. The list is sorted by level, previous id,
-/// own id, unsigned". Of a tree's nodes, in the tree's order.
+/// "Count is how many nodes of the level give that pair. The list is sorted by level, previous
+/// id, own id, unsigned, and indexed from 0."
+///
+/// Of the whole level, not of one parent's children.
 pub fn shingles(nodes: &[Node]) -> Vec<Shingle> {
-    let mut counts: BTreeMap<Pair, u64> = BTreeMap::new();
-    for pair in pairs(nodes) {
-        *counts.entry(pair).or_default() += 1;
-    }
-    let shingle = |(&(level, previous, own), &count)| Shingle {
-        level,
-        previous,
-        own,
-        count,
+    let given = pairs(nodes);
+    let mut different = given.clone();
+    different.sort();
+    different.dedup();
+    let shingle = |&pair: &Pair| Shingle {
+        level: pair.0,
+        previous: pair.1,
+        own: pair.2,
+        count: given.iter().filter(|&&other| other == pair).count() as u64,
     };
-    counts.iter().map(shingle).collect()
+    different.iter().map(shingle).collect()
 }

@@ -1,4 +1,4 @@
-//! The sketch of a list of shingles: 3q cells of five sums.
+//! The sketch of a list of shingles: cells of sums.
 
 use crate::fnv::fnv1a;
 use crate::shingle::Shingle;
@@ -7,17 +7,22 @@ use crate::shingle::Shingle;
 /// F(3)."
 pub type Cell = [u64; 5];
 
-/// "A shingle's 20 bytes: both ids, 8 bytes each, then tail ... in 4, all most significant first."
+/// "A shingle's 20 bytes: both ids, 8 bytes each, then tail = level × 65,536 + count in 4, all
+/// most significant first."
+///
+/// Previous id before own id, as in "A shingle ... is previous id, own id, level, count". Of a
+/// tail that is not below 2^32, the 4 least significant bytes.
 pub fn twenty_bytes(shingle: &Shingle) -> [u8; 20] {
-    let tail = u32::try_from(shingle.tail()).expect("a tail has 4 bytes");
     let mut bytes = [0; 20];
     bytes[..8].copy_from_slice(&shingle.previous.to_be_bytes());
     bytes[8..16].copy_from_slice(&shingle.own.to_be_bytes());
-    bytes[16..].copy_from_slice(&tail.to_be_bytes());
+    bytes[16..].copy_from_slice(&shingle.tail().to_be_bytes()[4..]);
     bytes
 }
 
 /// "Let F(j) be FNV-1a of the byte j followed by them."
+///
+/// FNV-1a itself: a 0 stays 0, for this is no block id.
 pub fn f(j: u8, shingle: &Shingle) -> u64 {
     let mut bytes = vec![j];
     bytes.extend(twenty_bytes(shingle));
@@ -25,11 +30,14 @@ pub fn f(j: u8, shingle: &Shingle) -> u64 {
 }
 
 /// "a shingle lies in cells j×q + (F(j) mod q) for j = 0, 1, 2"
+///
+/// For allowed settings only.
 pub fn places(shingle: &Shingle, width: u64) -> [usize; 3] {
     [0, 1, 2].map(|j| (u64::from(j) * width + f(j, shingle) % width) as usize)
 }
 
-/// What a shingle adds to the sums of each of its cells.
+/// What a shingle adds to each of its cells: "number of shingles, previous ids, own ids, tails,
+/// F(3)".
 pub fn part(shingle: &Shingle) -> Cell {
     [
         1,
@@ -40,17 +48,19 @@ pub fn part(shingle: &Shingle) -> Cell {
     ]
 }
 
-/// The sums of both cells.
+/// "five sums, each modulo 2^64"
 pub fn plus(a: &Cell, b: &Cell) -> Cell {
-    [0, 1, 2, 3, 4].map(|m| a[m].wrapping_add(b[m]))
+    std::array::from_fn(|sum| a[sum].wrapping_add(b[sum]))
 }
 
-/// The sums of the first cell without those of the second.
+/// The same, subtracted.
 pub fn minus(a: &Cell, b: &Cell) -> Cell {
-    [0, 1, 2, 3, 4].map(|m| a[m].wrapping_sub(b[m]))
+    std::array::from_fn(|sum| a[sum].wrapping_sub(b[sum]))
 }
 
-/// "The sketch has 3q cells"
+/// "The sketch has 3q cells; a shingle lies in cells j×q + (F(j) mod q) for j = 0, 1, 2."
+///
+/// For allowed settings only.
 pub fn sketch(list: &[Shingle], width: u64) -> Vec<Cell> {
     let mut cells = vec![[0; 5]; 3 * width as usize];
     for shingle in list {

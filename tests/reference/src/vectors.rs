@@ -2,7 +2,7 @@
 //! The head of `bin/reference-vectors.rs` says the format.
 
 use crate::fnv::{block_id, fnv1a};
-use crate::rcds::{rcds_sender_setup, rcds_tree};
+use crate::rcds::{rcds_sender_setup, rcds_sketch_open, rcds_tree};
 use crate::settings::Settings;
 
 /// Published inputs of FNV-1a.
@@ -66,6 +66,9 @@ pub const REFUSED_SETUPS: [[u64; 7]; 5] = [
     [2, 2, 1, 2, 64, 0, 65_537],
     [2, 2, 1, 2, 65, 0, 65_537],
 ];
+
+/// w, p, L, M, q of the openings that are refused before the sketch is opened, of 100 bytes of kind 2.
+pub const REFUSED_OPENINGS: [[u64; 5]; 3] = [[2, 2, 0, 2, 64], [2, 2, 5, 32, 64], [2, 2, 1, 2, 65]];
 
 /// The bytes of the tables and of the state before each call.
 pub const BEFORE: u8 = 170;
@@ -203,6 +206,53 @@ pub fn setup_lines() -> Vec<String> {
             kind,
             length as usize,
         ));
+    }
+    lines
+}
+
+/// The shingle table and the cell table of a string, as a setup leaves tables of zeros.
+fn described(settings: &Settings, width: u64, string: &[u8]) -> [Vec<u8>; 2] {
+    let [mut nodes, mut list, mut cells, mut state] =
+        [65_536, 98_304, 7_680, 40].map(|length| vec![0; length]);
+    rcds_sender_setup(
+        settings, width, string, &mut nodes, &mut list, &mut cells, &mut state,
+    );
+    [list, cells]
+}
+
+/// The line of one opening: the sketch of a string with its middle byte changed, over the string's own
+/// list.
+fn opening_line(settings: [u64; 5], kind: u64, length: usize) -> String {
+    let [w, p, levels, nominal, width] = settings;
+    let settings = Settings {
+        window: w,
+        fan_out: p,
+        levels,
+        nominal,
+    };
+    let mut string = string(kind, length);
+    let [mut list, own] = described(&settings, width, &string);
+    if let Some(middle) = string.get_mut(length / 2) {
+        *middle = middle.wrapping_add(1);
+    }
+    let [_, theirs] = described(&settings, width, &string);
+    let answer = rcds_sketch_open(levels, width, &theirs, &own, &mut list);
+    let digest = fnv1a(&list);
+    format!("open {w} {p} {levels} {nominal} {width} {kind} {length} {answer} {digest}")
+}
+
+/// The lines of all openings.
+pub fn opening_lines() -> Vec<String> {
+    let mut lines = Vec::new();
+    for settings in SETUPS {
+        for length in SETUP_LENGTHS {
+            for kind in SETUP_KINDS {
+                lines.push(opening_line(settings, kind, length));
+            }
+        }
+    }
+    for settings in REFUSED_OPENINGS {
+        lines.push(opening_line(settings, 2, 100));
     }
     lines
 }

@@ -2,12 +2,14 @@
 
 use reference::cell_table;
 use reference::fnv::fnv1a;
-use reference::opening::{closed, difference, open, single, takings, Closed, NotSingle};
+use reference::opening::{
+    closed, difference, open, single, takings, Closed, NotSingle, Taken, Takings,
+};
 use reference::rcds::{rcds_sender_setup, rcds_sketch_open, ACCEPTED};
 use reference::settings::Settings;
-use reference::shingle::{shingles, Shingle};
+use reference::shingle::{children, pairs, shingles, Pair, Shingle};
 use reference::shingle_table;
-use reference::sketch::{f, part, places, sketch, twenty_bytes};
+use reference::sketch::{f, minus, part, places, sketch, twenty_bytes};
 use reference::tree::tree;
 
 /// "With w=2, p=2, L=1, M=2"
@@ -327,4 +329,86 @@ fn few_cells_may_open_to_another_list() {
         }
     }
     assert!((200..300).contains(&wrong), "{wrong} of 1,000");
+}
+
+/// The pairs of a tree are the root's and, of each node, those of its children in a row.
+#[test]
+fn pairs_are_those_of_children() {
+    let settings = Settings {
+        nominal: 64,
+        levels: 3,
+        ..SMALLEST
+    };
+    for length in [0, 1, 50, 200, 500] {
+        let byte = |k: u64| (fnv1a(&k.to_be_bytes()) % 3) as u8;
+        let string: Vec<u8> = (0..length).map(byte).collect();
+        let nodes = tree(&settings, &string);
+        let mut expected: Vec<Pair> = vec![(0, 0, nodes[0].id)];
+        for k in 0..nodes.len() {
+            let mut previous = 0;
+            for child in children(&nodes, k) {
+                expected.push((child.level, previous, child.id));
+                previous = child.id;
+            }
+        }
+        let mut given = pairs(&nodes);
+        assert_eq!(given.len(), nodes.len());
+        expected.sort();
+        given.sort();
+        assert_eq!(given, expected);
+    }
+}
+
+/// One cell of three has a shingle: taking it leaves it negative in the other two, taking that brings it
+/// back to the first, and so on. "at most 3q times" ends it.
+#[test]
+fn three_takings_of_one_shingle() {
+    let one = shingle(1, 4, 5, 1);
+    let mirror = minus(&[0; 5], &part(&one));
+    let takings = takings(&[part(&one), [0; 5], [0; 5]], 4, 1);
+    let signs: Vec<bool> = takings.taken.iter().map(|taken| taken.negative).collect();
+    assert_eq!(signs, [false, true, false]);
+    assert!(takings.taken.iter().all(|taken| taken.shingle == one));
+    assert_eq!(takings.left, [[0; 5], mirror, mirror]);
+    let expected = [
+        Closed::CellsLeft,
+        Closed::TakenTwice,
+        Closed::NegativeNotOwn,
+        Closed::PairTwice,
+    ];
+    assert_eq!(closed(&takings, &[]), expected);
+}
+
+/// A positive one that is in the own list either stays there too, so that its pair is in the new list
+/// twice, or was also taken as negative, so that it was taken twice. All own lists of up to two shingles
+/// and all takings of up to three, from one pair with two counts and another pair.
+#[test]
+fn a_positive_one_that_is_own_is_never_all() {
+    let pool = [
+        shingle(1, 0, 5, 1),
+        shingle(1, 0, 5, 2),
+        shingle(1, 5, 5, 1),
+    ];
+    let mut met = 0;
+    for own in (0..9).map(|k| [pool[k % 3], pool[k / 3]]) {
+        for choice in 0..6_usize.pow(3) {
+            let taken = [choice % 6, choice / 6 % 6, choice / 36].map(|k| Taken {
+                shingle: pool[k % 3],
+                negative: k >= 3,
+            });
+            for (owned, took) in (0..=2).flat_map(|a| (0..=3).map(move |b| (a, b))) {
+                let takings = Takings {
+                    taken: taken[..took].to_vec(),
+                    left: vec![[0; 5]; 3],
+                };
+                let closed = closed(&takings, &own[..owned]);
+                if closed.contains(&Closed::PositiveOwn) {
+                    met += 1;
+                    let others = [Closed::TakenTwice, Closed::PairTwice];
+                    assert!(others.iter().any(|other| closed.contains(other)));
+                }
+            }
+        }
+    }
+    assert!(met > 1_000, "{met}");
 }

@@ -63,7 +63,7 @@ pub enum Family {
     OnePair,
     /// Few pairs, few cells: a count that changes makes another pair's shingle look like a third.
     FalseSingles,
-    /// A negative shingle that is taken twice.
+    /// A negative shingle that is taken twice, and nothing else amiss.
     TakenTwice,
     /// A difference, and one shingle that is forged.
     Forged(Forgery),
@@ -166,10 +166,10 @@ fn plan(family: Family, random: &mut Random) -> Plan {
         Family::OnePair => one_pair(levels, random),
         Family::FalseSingles => false_singles(levels, random),
         Family::TakenTwice => {
-            let (more, list) = taken_twice(random);
+            let (width, more, list) = taken_twice(random);
             Plan {
                 levels,
-                width: 3,
+                width,
                 list,
                 more,
             }

@@ -1,7 +1,8 @@
 //! Cells and lists as nobody makes them who follows the rules.
 
-use super::lists::{add_part, cells, id, list, shingle, some_of, Signed, MINUS};
+use super::lists::{add_part, cells, list, shingle, some_of, Signed, MINUS};
 use crate::random::Random;
+use reference::opening::{closed, takings, Closed};
 use reference::shingle::Shingle;
 use reference::sketch::{f, part, places, Cell};
 
@@ -125,50 +126,46 @@ pub fn of_one_pair(levels: u64, random: &mut Random) -> Vec<Signed> {
     (0..random.between(2, 6)).map(|_| signed(random)).collect()
 }
 
-/// Cells of q = 3 from which a negative shingle x is taken twice before all of them are 0, and what a
-/// list needs for that.
+/// A pair with two counts: one cell for j = 0, one for j = 1, two for j = 2. Nothing if the drawn one
+/// lies otherwise.
+fn two_counts(counts: [u64; 2], width: u64, random: &mut Random) -> Option<[Shingle; 2]> {
+    let (level, previous, own) = (random.between(0, 1), random.number(), random.number());
+    let both = counts.map(|count| Shingle {
+        level,
+        previous,
+        own,
+        count,
+    });
+    let [a, b] = both.map(|shingle| places(&shingle, width));
+    (a[0] == b[0] && a[1] == b[1] && a[2] != b[2]).then_some(both)
+}
+
+/// A width, cells from which a negative shingle is taken twice before all of them are 0, and a list for
+/// which that is the only thing amiss.
 ///
-/// The cells are those of −2x + y + z − v + w, where x, y, z, v are of one pair and y + z − v looks
-/// like x, F(3) included. All four lie in one cell, i, which holds −x by its look. The others lie so
-/// that x is found there, then again in a cell of its own, and only then y, z, v and w.
-pub fn taken_twice(random: &mut Random) -> (Vec<Cell>, Vec<Shingle>) {
-    const WIDTH: u64 = 3;
+/// Pairs x and y have the counts c and d. The cells are those of −2x(c) + x(d) + y(c) − y(d), the list
+/// has x(c) and y(d). For j = 0 neither the cell of x nor that of y is single, their numbers are −1 and 0. For
+/// j = 1 all meet in one cell, which looks like −x(c): FNV-1a ends by turning bits and multiplying, so
+/// that F(3) of x(c) less that of x(d) is often as much as of y(c) less y(d). For j = 2 one of them is
+/// alone, and from there the rest is taken, x(c) a second time. With a width that is a power of two,
+/// counts need two digits of base 256 for that.
+pub fn taken_twice(random: &mut Random) -> (u64, Vec<Cell>, Vec<Shingle>) {
     loop {
-        let (level, previous, own) = (random.between(0, 1), id(random), id(random));
-        let of = |count: u64| Shingle {
-            level,
-            previous,
-            own,
-            count,
+        let width = random.one_of(&[3, 5, 6, 7, 9, 16, 32]);
+        let counts = [0; 2].map(|_| 256 * random.between(0, 3) + random.between(1, 15));
+        let Some([x, other_x]) = two_counts(counts, width, random) else {
+            continue;
         };
-        let [y, z, v] = [0; 3].map(|_| random.between(1, 31));
-        if y + z <= v || y == z || y == v || z == v {
-            continue;
-        }
-        let [x, y, z, v] = [of(y + z - v), of(y), of(z), of(v)];
-        let look = f(3, &y).wrapping_add(f(3, &z)).wrapping_sub(f(3, &v));
-        if look != f(3, &x) {
-            continue;
-        }
-        let [at_x, at_y, at_z, at_v] = [x, y, z, v].map(|s| places(&s, WIDTH));
-        if [at_y, at_z, at_v].iter().any(|at| at[2] != at_x[2]) || at_x[2] == 8 {
-            continue;
-        }
-        for (k, l) in [(0, 1), (1, 0)] {
-            let apart = at_x[k] != at_y[k] && at_v[k] != at_x[k] && at_v[k] != at_y[k];
-            let together = at_y[k] == at_z[k] && at_y[l] == at_x[l] && at_v[l] == at_z[l];
-            if !apart || !together || at_z[l] == at_x[l] {
+        for _ in 0..100 * width {
+            let Some([y, other_y]) = two_counts(counts, width, random) else {
                 continue;
-            }
-            let w = loop {
-                let w = shingle(level, random);
-                let at_w = places(&w, WIDTH);
-                if at_w[k] == at_v[k] && at_w[l] == at_v[l] && at_w[2] > at_x[2] {
-                    break w;
-                }
             };
-            let signed = [(x, MINUS - 1), (y, 1), (z, 1), (v, MINUS), (w, 1)];
-            return (cells(&signed, WIDTH), vec![x, v]);
+            let signed = [(x, MINUS - 1), (other_x, 1), (y, 1), (other_y, MINUS)];
+            let (cells, mut list) = (cells(&signed, width), vec![x, other_y]);
+            list.sort();
+            if closed(&takings(&cells, 1, width), &list) == [Closed::TakenTwice] {
+                return (width, cells, list);
+            }
         }
     }
 }

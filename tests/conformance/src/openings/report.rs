@@ -88,10 +88,10 @@ impl Report {
         ] {
             let [all, alone] = self.closed.get(&closed).copied().unwrap_or_default();
             assert!(all > 0, "{closed:?} closed no sketch");
-            // A positive shingle of the own list is a pair twice. No sketch was found from which one is
-            // taken twice and that has no pair twice.
-            let never_alone = matches!(closed, Closed::PositiveOwn | Closed::TakenTwice);
-            assert!(alone > 0 || never_alone, "{closed:?} alone closed none");
+            // A positive shingle of the own list is never all that is amiss: if it stays there, its pair
+            // is in the new list twice, and if it was taken as negative too, it was taken twice.
+            let never_alone = closed == Closed::PositiveOwn;
+            assert_eq!(alone == 0, never_alone, "{closed:?} alone closed {alone}");
         }
         // A tail from 2^32 on has a level above L as well.
         for reason in [

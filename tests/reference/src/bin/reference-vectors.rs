@@ -24,6 +24,14 @@
 //!      63: for each length of 0, 6, 100, 4527, 20000, for each kind of 0, 2, 4, 5, a line.
 //!    - Then five lines that are refused: kind 2 length 100 with the settings 2 2 1 2 0, 2 2 1 2 65,
 //!      2 2 1 1 65; kind 0 length 65537 with the settings 2 2 1 2 64, 2 2 1 2 65.
+//! 5. `open W P L M Q KIND LENGTH ANSWER SHINGLES`, 103 lines. Two senders are set up with these settings,
+//!    each over tables and a state of zeros: for such a string, and for the same one with byte LENGTH / 2
+//!    one more, 0 after 255 (the empty string stays as it is). ANSWER is the answer of `rcds_sketch_open`
+//!    over the second's cells, the first's cells and the first's shingle table; SHINGLES is FNV-1a of that
+//!    table after it. A setup that is refused leaves zeros.
+//!    - The settings, lengths and kinds of the setups above, in the same order, a line each.
+//!    - Then three lines that are refused: kind 2 length 100 with the settings 2 2 0 2 64, 2 2 5 32 64,
+//!      2 2 1 2 65.
 //!
 //! Strings. The random bytes of a string: x starts at 8 × length + kind; for each byte first
 //! x = (x × 6364136223846793005 + 1442695040888963407) mod 2^64, then the byte is x / 2^56.
@@ -35,11 +43,11 @@
 //!   256, where t = k mod 1000 and v = 8 × t if t < 500, else 8 × (1000 − t).
 //! - Kind 5: the first 37 random bytes, over and over: byte i is byte i − 37 from 37 on.
 
-use reference::vectors::{fnv_lines, setup_lines, tree_lines};
+use reference::vectors::{fnv_lines, opening_lines, setup_lines, tree_lines};
 
 fn main() {
     let lines = fnv_lines().into_iter().chain(tree_lines());
-    for line in lines.chain(setup_lines()) {
+    for line in lines.chain(setup_lines()).chain(opening_lines()) {
         println!("{line}");
     }
 }
