@@ -2,6 +2,7 @@
 mod cut;
 mod entry;
 mod level;
+mod limits;
 
 ghost use mathlib.Core.Path.{_≡_};
 ghost use Rattle.tree.specs.Questions.{refusal};
@@ -20,12 +21,12 @@ pub struct Settings {
 pub fn question(settings: Settings, size: usize) -> u64
     ensures { λ r. ⌜ r ≡ refusal settings size ⌝ }
 {
-    let first = level::shape_question(settings.window, settings.fan_out, settings.levels);
+    let first = limits::shape_question(settings.window, settings.fan_out, settings.levels);
     if first != 0 {
         return first;
     }
     let least = level::power(settings.fan_out, settings.levels);
-    level::size_question(least, settings.nominal, settings.width, size)
+    limits::size_question(least, settings.nominal, settings.width, size)
 }
 
 // Cuts a string into its tree of blocks and writes the tree to the node table. Asked are 1 to 6, 7 of the node table, and 8:

@@ -2,8 +2,8 @@
 use borrow.Author.Needs.{needs}
 use borrow.Author.Tests.{lt-ltb, le-ltb, le-leb, lt-leb}
 use Rattle.tree.specs.Questions.{ask}
-use Rattle.tree.proofs.level.shape_question.Statement.{statement}
-use Rattle.tree.proofs.level.shape_question.Tie as tie
+use Rattle.tree.proofs.limits.shape_question.Statement.{statement}
+use Rattle.tree.proofs.limits.shape_question.Tie as tie
 
 returns : tie.Need-returns
 unfolding ask
