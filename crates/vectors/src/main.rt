@@ -1,15 +1,16 @@
 // Runs FNV-1a's published vectors and some hundred strings through the proved code and prints what comes out. The stored
 // output is what tests/reference prints; its program reference-vectors says the format.
+mod openings;
 mod strings;
 
 use libc::STDOUT_FILENO;
 
-fn print_number(n: u64) {
+pub fn print_number(n: u64) {
     io::print_decimal(STDOUT_FILENO, n);
     io::write_all(STDOUT_FILENO, b" ");
 }
 
-fn print_last(n: u64) {
+pub fn print_last(n: u64) {
     io::print_decimal(STDOUT_FILENO, n);
     io::write_all(STDOUT_FILENO, b"\n");
 }
@@ -221,4 +222,5 @@ fn main() {
     refused_lines();
     setup_lines();
     refused_setup_lines();
+    openings::lines();
 }
