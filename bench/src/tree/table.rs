@@ -7,7 +7,8 @@ use reference::settings::Settings;
 const ZEROS: usize = 0;
 const RANDOM: usize = 1;
 
-/// One level with h from 1 to 32,768; four levels with p = 2 and with p = 8, the first h from 8 to
+/// One level with h from 1 to 32,768, among them 500 and 2,000, where 4 and 16 KiB are just long enough for
+/// `positions_grow_with_it`; four levels with p = 2 and with p = 8, the first h from 8 to
 /// 32,768 and the last from 1 to 4,096; the shortest and the longest window.
 pub fn settings() -> Vec<Settings> {
     let with = |window, fan_out, levels, nominal| Settings {
@@ -17,7 +18,9 @@ pub fn settings() -> Vec<Settings> {
         nominal,
     };
     let mut settings = Vec::new();
-    for h in [1, 4, 16, 64, 256, 1_024, 4_096, 8_192, 16_384, 32_768] {
+    for h in [
+        1, 4, 16, 64, 256, 500, 1_024, 2_000, 4_096, 8_192, 16_384, 32_768,
+    ] {
         settings.push(with(12, 2, 1, 2 * h));
     }
     for window in [12, 2] {
@@ -99,21 +102,6 @@ fn times(longer: f64, shorter: f64) -> f64 {
     4.0 * longer / shorter
 }
 
-/// How much longer the dearest call of each length takes than the dearest of a quarter of it, over
-/// all settings with this many levels and all strings.
-fn growth_of_dearest(rows: &[Row], levels: u64) -> Vec<Figure> {
-    let rows = || rows.iter().filter(|row| row.settings.levels == levels);
-    let dearest = |size: usize| {
-        let passes = rows().flat_map(|row| row.costs.iter().map(move |costs| costs[size].passes));
-        passes.fold(0.0, f64::max)
-    };
-    let figure = |size: usize| {
-        let place = format!("L = {levels}, {} and {} KiB", SIZES[size - 1], SIZES[size]);
-        (times(dearest(size), dearest(size - 1)), place)
-    };
-    (1..SIZES.len()).map(figure).collect()
-}
-
 /// How much longer each string takes than the one of a quarter of its length, with the same
 /// settings, where the shorter one is wanted.
 fn growth(row: &Row, wanted: fn(&Settings, usize) -> bool) -> Vec<Figure> {
@@ -130,10 +118,18 @@ fn growth(row: &Row, wanted: fn(&Settings, usize) -> bool) -> Vec<Figure> {
     figures
 }
 
-/// Whether a string of this length can have a cut at level 1. Else it is only hashed there.
-fn may_be_cut(settings: &Settings, length: usize) -> bool {
+/// How many positions of a string of this length can be candidates at level 1.
+fn positions(settings: &Settings, length: usize) -> usize {
     let rule = settings.rule(1);
-    length >= 2 * rule.distance + rule.window
+    (length + 1).saturating_sub(2 * rule.distance + rule.window)
+}
+
+/// Whether a string has such positions, and four times the bytes have at most five times as many. The h
+/// positions barred at each end are a smaller share of a longer string, so that after a short one they
+/// are more.
+fn positions_grow_with_it(settings: &Settings, length: usize) -> bool {
+    let (shorter, longer) = (positions(settings, length), positions(settings, 4 * length));
+    shorter > 0 && longer <= 5 * shorter
 }
 
 fn zeros_to_random(row: &Row) -> Vec<Figure> {
@@ -155,14 +151,15 @@ fn longest(row: &Row) -> Vec<Figure> {
 
 /// The three sentences.
 pub fn print_worst(rows: &[Row]) {
-    let (most, place) = worst([1, 4].iter().flat_map(|&l| growth_of_dearest(rows, l)));
-    let (cut, cut_place) = worst(rows.iter().flat_map(|row| growth(row, may_be_cut)));
+    let (most, place) = worst(
+        rows.iter()
+            .flat_map(|row| growth(row, positions_grow_with_it)),
+    );
     let (any, any_place) = worst(rows.iter().flat_map(|row| growth(row, |_, _| true)));
     println!(
-        "Four times the bytes cost at most {most:.1} times the time, comparing the dearest calls \
-         of each length ({place}); with the same settings at most {cut:.1} times where the shorter \
-         string is long enough for a cut at level 1 ({cut_place}), and {any:.1} times where it may \
-         be too short for one and is only hashed there ({any_place})."
+        "Four times the bytes cost at most {most:.1} times the time with the same settings, where they have \
+         at most five times the positions that can be candidates at level 1 ({place}). Where they have more, \
+         or the shorter string has none, at most {any:.1} times ({any_place})."
     );
     let (most, place) = worst(rows.iter().flat_map(zeros_to_random));
     println!("Zeros cost at most {most:.1} times random bytes ({place}).");
