@@ -114,10 +114,10 @@ unfolding trailNumber
 number-small xs = omega arith
 
 -- What the search answers over all trails, and over a multiset that has none.
-pub whole-answer : (ps os cs : List ℕ) (last k skip left : ℕ) (found : Bool) (places : List ℕ) → ((i : ℕ) → getD os i 0 ≤ last) → total cs ≡ k →
-    Answer (trailsUpTo last k (rising os) 0 (pairsOf ps os cs)) k skip found left places → Answer (trailsOver ps os cs) k skip found left places
+pub whole-answer : (ps os cs rest : List ℕ) (last k skip left : ℕ) (found : Bool) (places : List ℕ) → rest ≡ cs → ((i : ℕ) → getD os i 0 ≤ last) → total cs ≡ k →
+    Answer (trailsUpTo last k (rising os) 0 (pairsOf ps os rest)) k skip found left places → Answer (trailsOver ps os cs) k skip found left places
 unfolding trailsOver
-whole-answer ps os cs last k skip left found places bound size a = rw size (rw (up-to-all os last k 0 (pairsOf ps os cs) bound) at a)
+whole-answer ps os cs rest last k skip left found places e bound size a = rw size (rw (e, up-to-all os last k 0 (pairsOf ps os cs) bound) at a)
 
 pub unbalanced-answer : (ps os cs : List ℕ) (k skip left : ℕ) (found : Bool) (places : List ℕ) → Columns ps os cs → Unbalanced ps os cs → found ≡ false → left ≡ skip →
     Answer (trailsOver ps os cs) k skip found left places

@@ -1,5 +1,5 @@
 -- A row of zeros that is filled from the front with the elements of a list.
-use mathlib.Core.List.{List, [], _∷_, _++_, append-assoc}
+use mathlib.Core.List.{List, [], _∷_, _++_, append-assoc, append-nil}
 use mathlib.Core.Path.{_≡_, refl, sym, ap, _∙_}
 use Prim.Native.Nat.{ℕ, suc, _+_, _-_, _<_, _≤_}
 use native.Mathlib.Omega.{arith}
@@ -8,7 +8,7 @@ use lib.ListN.{length, getD, set, take, drop, replicate, length-drop, length-rep
 use lib.Seq.{set-at, take-suc, length-take-le, take-all, getD-drop}
 use Rattle.trail.specs.Search.{Chained}
 
-fill-next : (row source : List ℕ) (n i : ℕ) → i < n → i < length source → row ≡ take i source ++ replicate (n - i) 0 →
+pub fill-next : (row source : List ℕ) (n i : ℕ) → i < n → i < length source → row ≡ take i source ++ replicate (n - i) 0 →
     set row i (getD source i 0) ≡ take (i + 1) source ++ replicate (n - (i + 1)) 0
 fill-next row source n i h l e =
     let more : n - i ≡ suc (n - (i + 1)) = omega arith in
@@ -18,6 +18,11 @@ fill-next row source n i h l e =
 
 fill-end : (row source : List ℕ) (n i : ℕ) → length source ≤ i → row ≡ take i source ++ replicate (n - i) 0 → i ≤ length source → row ≡ source ++ replicate (n - length source) 0
 fill-end row source n i h e l = let same : i ≡ length source = omega arith in e ∙ (λ j. take-all i source h j ++ replicate (n - same j) 0)
+
+-- All places are filled.
+pub copied : (row source : List ℕ) (i : ℕ) → length source ≡ 32 → i ≡ 32 → row ≡ take i source ++ replicate (32 - i) 0 → row ≡ source
+copied row source i l h e =
+    fill-end row source 32 i (omega arith) e (omega arith) ∙ ap (λ (n : ℕ). source ++ replicate (32 - n) 0) l ∙ append-nil source
 
 -- The columns of the pairs of a sequence, i rows done.
 pub record Chaining (xs previouses owns counts : List ℕ) (v i : ℕ) : Type 0 where

@@ -8,9 +8,10 @@ pub mod Weigh
 pub mod Prune
 pub mod Search
 pub mod Scan
+pub mod Fill
+pub mod Linking
 pub mod Turn
 pub mod Numbering
-pub mod Fill
 pub mod Ranking
 pub mod Answers
 pub mod Orders

@@ -39,7 +39,7 @@ module _ (xs ps os cs₀ : List ℕ) (n : Numberable xs ps os cs₀) where
   pairs-first : pairsOf ps os cs₀ ≡ pairsFrom 0 xs
   pairs-first = rw (n .table .previous, n .table .own, n .table .count) (pairs-chain 0 xs (replicate (32 - length xs) 0) (replicate (32 - length xs) 0) (32 - length xs))
 
-  total-first : total cs₀ ≡ length xs
+  pub total-first : total cs₀ ≡ length xs
   total-first = rw (n .table .count) (total-chain (length xs) (32 - length xs))
 
   previous-at : (d : ℕ) → d < length xs → getD ps d 0 ≡ getD (0 ∷ xs) d 0
@@ -76,10 +76,11 @@ pub record Counting (xs ps os cs : List ℕ) (v skip d : ℕ) : Type 0 where
   pub cap : skip ≤ 4096
   pub count : (4096 - skip) + countBefore (drop d xs) (trailsFrom (length xs - d) (rising os) v (pairsFrom v (drop d xs))) ≡ countBefore xs (trailsLike xs)
 
-pub count-start : {xs ps os cs₀ : List ℕ} → Numberable xs ps os cs₀ → Counting xs ps os cs₀ 0 4096 0
-count-start {xs} {ps} {os} {cs₀} n =
+pub count-start : {xs ps os cs₀ cs : List ℕ} → Numberable xs ps os cs₀ → cs ≡ cs₀ → Counting xs ps os cs 0 4096 0
+count-start {xs} {ps} {os} {cs₀} n e =
     let all : length xs - 0 ≡ length xs = omega arith in
-    record {
+    subst (λ (cs : List ℕ). Counting xs ps os cs 0 4096 0) (sym e)
+    (record {
       bound = omega arith;
       pairs = pairs-first xs ps os cs₀ n;
       size = total-first xs ps os cs₀ n ∙ sym all;
@@ -88,7 +89,7 @@ count-start {xs} {ps} {os} {cs₀} n =
       last = refl;
       cap = omega arith;
       count = rw (all, alike xs ps os cs₀ n) (omega arith);
-    }
+    })
 
 pub count-ready : {xs ps os cs₀ ns cs : List ℕ} {v skip d : ℕ} → Numberable xs ps os cs₀ → length ns ≡ 32 → Counting xs ps os cs v skip d → Ready ps os ns cs (length xs - d)
 count-ready {xs} {ps} {os} {cs₀} n l c =

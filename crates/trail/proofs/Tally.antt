@@ -93,6 +93,9 @@ unfolding pairsOf
 row-pair ps os cs i hp ho hc = row-counts _ ps os cs i hp ho hc (rw (eq-eqb (getD ps i 0) (getD ps i 0) refl, eq-eqb (getD os i 0) (getD os i 0) refl))
 
 -- The whole table has as many pairs as its counts add up to.
+pub count-le : (cs : List ℕ) (i : ℕ) → i < length cs → getD cs i 0 ≤ total cs
+count-le cs i h = let t = total-set cs i 0 h in omega arith
+
 pub tally-total : (ps os cs : List ℕ) → length ps ≡ length cs → length os ≡ length cs → tally (λ p o. true) ps os cs ≡ total cs
 unfolding tally total
 tally-total [] [] [] hp ho = refl

@@ -1,19 +1,21 @@
 -- The turns of the search, over plain lists and numbers: each need of its proof is one of these laws.
-use mathlib.Core.Bool.{Bool, true, false}
+use mathlib.Core.Bool.{Bool, true, false, cond}
 use mathlib.Core.List.{List, [], _∷_, _++_, map}
 use mathlib.Core.Path.{_≡_, refl, sym, ap, subst, _∙_}
 use Prim.Native.Nat.{ℕ, zero, suc, _+_, _-_, _<_, _≤_}
 use native.Mathlib.Omega.{arith}
 use native.Mathlib.Numerals.{add-one}
+use lib.Dec.{ltb}
 use lib.ListN.{length, getD, set, length-set}
-use borrow.Author.Tests.{le-leb}
+use borrow.Author.Tests.{le-leb, lt-ltb, ltb-true}
 use Rattle.trail.specs.Trails.{Multiset, pairsFrom, without, pairsOf, rising, branches, trailsFrom}
-use Rattle.trail.specs.Search.{keep, within, trailsWithin, trailsUpTo, Columns, Leads, Least, Ready, Answer, Lost}
+use Rattle.trail.specs.Search.{keep, within, trailsWithin, trailsUpTo, Columns, Leads, Least, Ready, Answer, Lost, led}
 use Rattle.trail.proofs.Every.{Every, none, also, weaken, no-member}
 use Rattle.trail.proofs.Ids.{rising-up, every-rising}
 use Rattle.trail.proofs.Tally.{total-set, PairRow, pair-row, row-pair, without-row, Sized, sized-without}
 use Rattle.trail.proofs.Trails.{step-back, every-branch, sound}
 use Rattle.trail.proofs.Weigh.{owns-cover}
+use Rattle.trail.proofs.Linking.{led-long, led-set}
 use Rattle.trail.proofs.Search.{no-branch, next-branch, nothing, leaf-found, leaf-past, branch-found, branch-past}
 
 -- A search that goes on with the ids from low on, `left` trails still to be skipped, answers the whole search.
@@ -112,6 +114,10 @@ ready-spent ps os ns cs rest k r a h u e =
       few = omega arith;
     }
 
+-- Equal counts.
+pub ready-same : (ps os ns cs rest : List ℕ) (k : ℕ) → rest ≡ cs → Ready ps os ns cs k → Ready ps os ns rest k
+ready-same ps os ns cs rest k e a = subst (λ (list : List ℕ). Ready ps os ns list k) (sym e) a
+
 every-below : (os : List ℕ) (n : ℕ) → ((i : ℕ) → getD os i 0 ≤ n) → Every (λ y. y ≤ n) os
 every-below [] n h = none
 every-below (o ∷ os) n h = also (h 0) (every-below os n (λ i. h (suc i)))
@@ -137,14 +143,15 @@ module _ (ps os ns cs rest : List ℕ) (top last v k skip left low r : ℕ) (a :
   more : suc (k - 1) ≡ k
   more = omega arith
 
-  pub found-answer : (found : Bool) (left′ left″ : ℕ) (places : List ℕ) → length places ≡ 32 → found ≡ true →
-      Answer (trailsUpTo last (k - 1) (rising os) (getD os r 0) (pairsOf ps os rest)) (k - 1) left found left′ places →
-      Answer (trailsUpTo top k (rising os) v (pairsOf ps os cs)) k skip true left″ (set places (32 - k) (getD os r 0))
-  found-answer found left′ left″ places l f b =
+  pub found-answer : (found : Bool) (left′ left″ : ℕ) (rows : List ℕ) → length rows ≡ 32 → found ≡ true →
+      Answer (trailsUpTo last (k - 1) (rising os) (getD os r 0) (pairsOf ps os rest)) (k - 1) left found left′ (led os rows) →
+      Answer (trailsUpTo top k (rising os) v (pairsOf ps os cs)) k skip true left″ (led os (set rows (32 - k) r))
+  found-answer found left′ left″ rows l f b =
       let few = a .few in
-      o .so true left″ (set places (32 - k) (getD os r 0))
-      (rw parts (subst (λ (n : ℕ). Answer (map (λ (xs : List ℕ). getD os r 0 ∷ xs) (trailsUpTo last (k - 1) (rising os) (getD os r 0) (pairsOf ps os rest)) ++ trailsWithin (getD os r 0 + 1) top (k - 1) (rising os) v (pairsOf ps os cs)) n left true left″ (set places (32 - n) (getD os r 0))) more
-      (branch-found (getD os r 0) (k - 1) left left′ left″ _ _ places l (omega arith) (rw f at b))))
+      subst (λ (places : List ℕ). Answer (trailsUpTo top k (rising os) v (pairsOf ps os cs)) k skip true left″ places) (led-set os rows (32 - k) r)
+      (o .so true left″ (set (led os rows) (32 - k) (getD os r 0))
+      (rw parts (subst (λ (n : ℕ). Answer (map (λ (xs : List ℕ). getD os r 0 ∷ xs) (trailsUpTo last (k - 1) (rising os) (getD os r 0) (pairsOf ps os rest)) ++ trailsWithin (getD os r 0 + 1) top (k - 1) (rising os) v (pairsOf ps os cs)) n left true left″ (set (led os rows) (32 - n) (getD os r 0))) more
+      (branch-found (getD os r 0) (k - 1) left left′ left″ _ _ (led os rows) (led-long os rows ∙ l) (omega arith) (rw f at b)))))
 
   pub past-onward : (found : Bool) (left′ : ℕ) (places : List ℕ) → found ≡ false →
       Answer (trailsUpTo last (k - 1) (rising os) (getD os r 0) (pairsOf ps os rest)) (k - 1) left found left′ places →
@@ -155,7 +162,23 @@ module _ (ps os ns cs rest : List ℕ) (top last v k skip left low r : ℕ) (a :
             (branch-past (getD os r 0) (k - 1) left left′ _ _ places (rw f at b) found″ left″ places″ (subst (λ (n : ℕ). Answer (trailsWithin (getD os r 0 + 1) top (k - 1) (rising os) v (pairsOf ps os cs)) n left′ found″ left″ places″) (sym more) c))));
       }
 
--- No id is greater than top.
-pub past-top : (low top k : ℕ) (ids : List ℕ) (v : ℕ) (pairs : Multiset) → top < low → trailsWithin low top k ids v pairs ≡ []
-unfolding trailsWithin
-past-top low top k ids v pairs h = no-branch (λ x fewer. trailsFrom k ids x fewer) low top ids v pairs (λ y l t p. omega arith)
+-- The loop of the search: row i leads to the least id from some id `low` on, and so goes on.
+pub record Turning (ps os cs : List ℕ) (top k v skip left i : ℕ) : Type 0 where
+  pub low : ℕ
+  pub onward : Onward top k (rising os) v (pairsOf ps os cs) skip left low
+  pub least : Least ps os cs v low top 32 i
+
+pub turning-start : (ps os cs : List ℕ) (top k v skip i : ℕ) → (k ≡ 0 → ⊥) → Least ps os cs v 0 top 32 i → Turning ps os cs top k v skip skip i
+turning-start ps os cs top k v skip i z m = record { low = 0; onward = onward-start top (rising os) v (pairsOf ps os cs) k skip z; least = m }
+
+-- How many ids there are from that of row i to top, which falls from turn to turn.
+unfoldable pub room : List ℕ → ℕ → ℕ → ℕ
+room os top i = cond (ltb i 32) (top + 1 - getD os i 0) 0
+
+pub room-less : (ps os cs : List ℕ) (v top i j : ℕ) → i < 32 → getD os i 0 ≤ top → Least ps os cs v (getD os i 0 + 1) top 32 j → room os top j < room os top i
+unfolding room
+room-less ps os cs v top i j h b m = rw (lt-ltb i 32 h) (choose (ltb j 32) refl)
+  where
+    choose : (t : Bool) → ltb j 32 ≡ t → cond t (top + 1 - getD os j 0) 0 < top + 1 - getD os i 0
+    choose true e = let l = m .row (ltb-true j 32 e) in let u = l .above in let w = l .below in omega arith
+    choose false e = omega arith

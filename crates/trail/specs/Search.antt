@@ -1,6 +1,6 @@
 -- What the parts of the search promise each other. No public contract cites these.
 use mathlib.Core.Bool.{Bool, true, false, cond, _&&_}
-use mathlib.Core.List.{List, [], _∷_, _++_}
+use mathlib.Core.List.{List, [], _∷_, _++_, map}
 use mathlib.Core.Path.{_≡_}
 use Prim.Native.Nat.{ℕ, zero, suc, _+_, _-_, _<_, _≤_}
 use lib.Dec.{eqb, leb}
@@ -46,6 +46,31 @@ pub record Decides (P : Type 0) (r : Bool) : Type 0 where
 pub record Least (previouses owns counts : List ℕ) (v low top n r : ℕ) : Type 0 where
   pub row : r < 32 → Leads previouses owns counts v low top r
   pub least : (j : ℕ) → j < n → Leads previouses owns counts v low top j → (r < 32) × (getD owns r 0 ≤ getD owns j 0)
+
+-- Row r is the first from `from` on that leaves id; it is not below 32 if there is none.
+pub record Following (previouses : List ℕ) (id from r : ℕ) : Type 0 where
+  pub on : from ≤ r
+  pub here : r < 32 → getD previouses r 0 ≡ id
+  pub none : (j : ℕ) → j < r → from ≤ j → j < 32 → getD previouses j 0 ≡ id → ⊥
+
+-- For each of the first n rows, the first row that leaves the id it leads to.
+pub record Firsts (previouses owns firsts : List ℕ) (n : ℕ) : Type 0 where
+  pub long : length firsts ≡ 32
+  pub each : (i : ℕ) → i < n → Following previouses (getD owns i 0) 0 (getD firsts i 0)
+
+-- For each of the first n rows, the next row that leaves the same id.
+pub record Afters (previouses afters : List ℕ) (n : ℕ) : Type 0 where
+  pub long : length afters ≡ 32
+  pub each : (i : ℕ) → i < n → Following previouses (getD previouses i 0) (i + 1) (getD afters i 0)
+
+-- The rows of a table are linked.
+pub record Linked (previouses owns firsts afters : List ℕ) : Type 0 where
+  pub first : Firsts previouses owns firsts 32
+  pub after : Afters previouses afters 32
+
+-- The ids that rows lead to.
+unfoldable pub led : List ℕ → List ℕ → List ℕ
+led owns rows = map (λ (i : ℕ). getD owns i 0) rows
 
 -- The search can start: the columns have 32 places, k pairs are unused, and k is at most 32.
 pub record Ready (previouses owns nexts counts : List ℕ) (k : ℕ) : Type 0 where

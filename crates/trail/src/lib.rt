@@ -1,5 +1,6 @@
 // Trails: a node's children travel as an unordered multiset of pairs and one number, which together give back their order.
 // `number` says which of the multiset's trails an order is, and `order` gives the trail of a number.
+mod links;
 mod rank;
 mod reach;
 mod table;
@@ -80,10 +81,10 @@ pub fn order(pairs: Pairs, number: u64) -> Trail
         return refuse();
     }
     let places = k as usize;
-    let outcome = find(&previous, &own, count, places, number);
+    let outcome = find(&previous, &own, &count, places, number);
     if outcome.found {
-        let last = outcome.ids;
-        let ids = front(last, places);
+        let rows = outcome.rows;
+        let ids = front(&own, rows, places);
         let answer = 4294967296 + k;
         return Trail {
             answer,

@@ -1,6 +1,10 @@
 // The number of an order: step by step, the trails that start with a smaller id.
 use crate::Pairs;
+use crate::links::afters;
+use crate::links::firsts;
+use crate::links::leaving;
 use crate::reach::followers;
+use crate::table::narrow;
 use crate::walk::search;
 ghost use mathlib.Core.Path.{_≡_};
 ghost use Prim.Native.Nat.{_≤_};
@@ -54,13 +58,29 @@ pub fn rank(previous: &[u64], own: &[u64], count: [u64; 32], ids: &[u64]) -> u64
     ensures { λ r. ⌜ r ≡ trailNumber (now (ids .entry)) ⌝ }
 {
     let next = followers(previous, own);
-    let mut unused = count;
+    let first = firsts(previous, own);
+    let after = afters(previous);
+    let mut unused = narrow(&count);
     let mut v = 0;
     let mut skip = 4096;
     let mut i = 0;
     while i < ids.len() {
         let x = ids[i];
-        let before = search(previous, own, &next, unused, v, x - 1, ids.len() - i, skip);
+        let from = leaving(previous, v, 0);
+        let before = search(
+            previous,
+            own,
+            &next,
+            &first,
+            &after,
+            unused,
+            v,
+            from,
+            x - 1,
+            ids.len() - i,
+            skip,
+            false,
+        );
         if before.found {
             return 4096;
         }

@@ -37,7 +37,7 @@ pub fn followers(previous: &[u64], own: &[u64]) -> [u64; 32]
 }
 
 // The rows that are not used up.
-fn unused_rows(counts: &[u64]) -> u64
+fn unused_rows(counts: &[u8]) -> u64
     requires { ⌜ length (now counts) ≡ 32 ⌝ }
 {
     let mut rows = 0u64;
@@ -73,18 +73,18 @@ fn reached(next: &[u64], unused: u64, start: u64) -> u64
 }
 
 // A mark for each row of a set: 1 for those that are in it.
-fn marks(rows: u64) -> [u64; 32] {
-    let mut marks = [0u64; 32];
+fn marks(rows: u64) -> [u8; 32] {
+    let mut marks = [0u8; 32];
     let mut i = 0;
     while i < 32 {
-        marks[i] = rows >> i & 1;
+        marks[i] = (rows >> i & 1) as u8;
         i += 1;
     }
     marks
 }
 
 // Whether a marked unused row leads to this id.
-fn entered(own: &[u64], counts: &[u64], marks: &[u64], id: u64) -> bool
+fn entered(own: &[u64], counts: &[u8], marks: &[u8], id: u64) -> bool
     requires { ⌜ (length (now own) ≡ 32) × (length (now counts) ≡ 32) × (length (now marks) ≡ 32) ⌝ }
     ensures { λ r. ⌜ (r ≡ false → Away (now (own .entry)) (now (counts .entry)) (now (marks .entry)) id 32) ⌝ }
 {
@@ -104,7 +104,7 @@ fn entered(own: &[u64], counts: &[u64], marks: &[u64], id: u64) -> bool
 }
 
 // A missed row, if there is one and no missed row leaves v or an id that a marked row leads to; else 32.
-fn shut(previous: &[u64], own: &[u64], counts: &[u64], marks: &[u64], v: u64) -> usize
+fn shut(previous: &[u64], own: &[u64], counts: &[u8], marks: &[u8], v: u64) -> usize
     requires { ⌜ Columns (now previous) (now own) (now counts) × (length (now marks) ≡ 32) ⌝ }
     ensures { λ r. ⌜ (r < 32 → Missed (now (counts .entry)) (now (marks .entry)) r × Apart (now (previous .entry)) (now (own .entry)) (now (counts .entry)) (now (marks .entry)) v 32) ⌝ }
 {
@@ -130,7 +130,7 @@ fn shut(previous: &[u64], own: &[u64], counts: &[u64], marks: &[u64], v: u64) ->
 }
 
 // Whether some unused pair is out of reach from v, so that no trail goes on from there.
-pub fn lost(previous: &[u64], own: &[u64], next: &[u64], counts: &[u64], v: u64) -> bool
+pub fn lost(previous: &[u64], own: &[u64], next: &[u64], counts: &[u8], v: u64) -> bool
     requires { ⌜ Columns (now previous) (now own) (now counts) × (length (now next) ≡ 32) ⌝ }
     ensures { λ r. ⌜ (r ≡ true → Lost v (pairsOf (now (previous .entry)) (now (own .entry)) (now (counts .entry)))) ⌝ }
 {

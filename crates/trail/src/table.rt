@@ -65,3 +65,17 @@ pub fn balanced(previous: &[u64], own: &[u64], counts: &[u64]) -> bool
     }
     true
 }
+
+// The counts as bytes: what the search copies at every step is then short.
+pub fn narrow(counts: &[u64]) -> [u8; 32]
+    requires { ⌜ (length (now counts) ≡ 32) × (total (now counts) ≤ 32) ⌝ }
+    ensures { λ r. ⌜ r ≡ now (counts .entry) ⌝ }
+{
+    let mut bytes = [0u8; 32];
+    let mut i = 0;
+    while i < 32 {
+        bytes[i] = counts[i] as u8;
+        i += 1;
+    }
+    bytes
+}

@@ -36,17 +36,23 @@ slice-aggregate-find c = search needs
 slice-aggregate-find-2 : tie.Need-slice-aggregate-find-2
 slice-aggregate-find-2 c = search needs
 
+slice-aggregate-find-3 : tie.Need-slice-aggregate-find-3
+slice-aggregate-find-3 c = search needs
+
 find-requires : tie.Need-find-requires
-find-requires c κs = (record { previous = search needs; own = search needs; count = search needs }, omega (arith, c .before .before .before .before .before .size .ensures, c .before .before .before .if2 .left), omega (arith, c .before .before .before .if2 .left))
+find-requires c κs = (record { previous = search needs; own = search needs; count = search needs }, omega (arith, c .before .before .before .before .before .before .size .ensures, c .before .before .before .before .if2 .left), omega (arith, c .before .before .before .before .if2 .left))
+
+slice-aggregate-front : tie.Need-slice-aggregate-front
+slice-aggregate-front c = search needs
 
 front-requires : tie.Need-front-requires
-front-requires c κs = omega (arith, c .before .before .before .before .before .before .if2 .left)
+front-requires c κs = omega (arith, c .before .before .before .before .before .before .before .before .if2 .left)
 
 add-answer : tie.Need-add-answer
-add-answer c = omega (arith, c .before .before .before .before .before .before .before .if2 .left)
+add-answer c = omega (arith, c .before .before .before .before .before .before .before .before .before .if2 .left)
 
 returns-4 : tie.Need-returns-4
-returns-4 c = order-found _ _ _ _ _ _ _ (c .before .before .before .before .before .before .before .before .before .size .ensures) (c .before .before .before .before .before .before .before .before .if1 .left) (c .before .before .before .before .before .before .before .if2 .left) (c .before .before .before .before .before .before .if3 .left) (c .before .before .before .find .ensures) (c .before .before .if4 .taken) refl refl (c .front .ensures)
+returns-4 c = order-found _ _ _ _ _ _ _ (c .before .before .before .before .before .before .before .before .before .before .before .size .ensures) (c .before .before .before .before .before .before .before .before .before .before .if1 .left) (c .before .before .before .before .before .before .before .before .before .if2 .left) (c .before .before .before .before .before .before .before .before .if3 .left) (c .before .before .before .before .find .ensures) (c .before .before .before .if4 .taken) refl refl (c .front .ensures)
 
 refuse-requires-4 : tie.Need-refuse-requires-4
 refuse-requires-4 c κs = search needs
@@ -68,7 +74,9 @@ order-spec =
     returns-3
     slice-aggregate-find
     slice-aggregate-find-2
+    slice-aggregate-find-3
     find-requires
+    slice-aggregate-front
     front-requires
     add-answer
     returns-4

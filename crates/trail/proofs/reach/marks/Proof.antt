@@ -1,6 +1,8 @@
 -- A store stays within the 32 places; nothing is promised of the marks.
 use borrow.Author.Needs.{needs}
-use Prim.Native.Nat.{_≤_, _-_}
+use Prim.Native.Nat.{_≤_, _-_, _/_, _^_}
+use native.Mathlib.Omega.{arith}
+use lib.Bits.{and-le-r}
 use lib.ListN.{length}
 use mathlib.Core.Path.{_≡_}
 use Rattle.trail.proofs.reach.marks.Statement.{statement}
@@ -18,8 +20,8 @@ loop-holds c = search needs
 shr-marks : tie.Need-shr-marks Inv-loop μ-loop
 shr-marks c = search needs
 
-mul-marks : tie.Need-mul-marks Inv-loop μ-loop
-mul-marks c = search needs
+cast-marks : tie.Need-cast-marks Inv-loop μ-loop
+cast-marks c = omega (arith, and-le-r (c .before .before .args .rows / 2 ^ (c .before .loop .i)) 1)
 
 array-write-marks : tie.Need-array-write-marks Inv-loop μ-loop
 array-write-marks c = search needs
@@ -44,7 +46,7 @@ marks-spec =
     μ-loop
     loop-holds
     shr-marks
-    mul-marks
+    cast-marks
     array-write-marks
     add-i
     loop-less

@@ -19,14 +19,8 @@ loop-holds c = (omega arith, λ h. absurd (omega arith), λ j h m. absurd (omega
 add-j : tie.Need-add-j Inv-loop μ-loop
 add-j c = search needs
 
-mul-if1 : tie.Need-mul-if1 Inv-loop μ-loop
-mul-if1 c = search needs
-
 shared-slice-read-if1 : tie.Need-shared-slice-read-if1 Inv-loop μ-loop
 shared-slice-read-if1 c = search needs
-
-mul-if2 : tie.Need-mul-if2 Inv-loop μ-loop
-mul-if2 c = search needs
 
 shared-slice-read-if2 : tie.Need-shared-slice-read-if2 Inv-loop μ-loop
 shared-slice-read-if2 c = search needs
@@ -75,9 +69,7 @@ shut-spec =
     μ-loop
     loop-holds
     add-j
-    mul-if1
     shared-slice-read-if1
-    mul-if2
     shared-slice-read-if2
     mul-id
     shared-slice-read-id

@@ -16,9 +16,6 @@ loop-holds c = search needs
 add-i : tie.Need-add-i Inv-loop μ-loop
 add-i c = search needs
 
-mul-if1 : tie.Need-mul-if1 Inv-loop μ-loop
-mul-if1 c = search needs
-
 shared-slice-read-if1 : tie.Need-shared-slice-read-if1 Inv-loop μ-loop
 shared-slice-read-if1 c = search needs
 
@@ -48,7 +45,6 @@ unused-rows-spec =
     μ-loop
     loop-holds
     add-i
-    mul-if1
     shared-slice-read-if1
     shl-rows
     loop-less

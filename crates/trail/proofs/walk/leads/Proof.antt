@@ -14,9 +14,6 @@ shared-slice-read-if1 c = search needs
 returns : tie.Need-returns
 returns c = record { holds = λ e. absurd (false≢true e); fails = λ e l. c .if1 .taken (l .leaves) }
 
-mul-if2 : tie.Need-mul-if2
-mul-if2 c = search needs
-
 shared-slice-read-if2 : tie.Need-shared-slice-read-if2
 shared-slice-read-if2 c = search needs
 
@@ -45,7 +42,6 @@ leads-spec =
     mul-if1
     shared-slice-read-if1
     returns
-    mul-if2
     shared-slice-read-if2
     returns-2
     mul-x

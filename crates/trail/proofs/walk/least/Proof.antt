@@ -1,47 +1,52 @@
--- The best row so far and its id, or none and top (`Scanned`), one row further each turn.
+-- The best row so far and its id, or none and top (`Scanned`), one row that leaves v further each turn.
 use borrow.Author.Needs.{needs}
+use lib.ListN.{getD}
+use mathlib.Core.Path.{_≡_}
 use native.Mathlib.Omega.{arith}
-use Rattle.trail.proofs.Scan.{scan-start, scan-pass, scan-fail, scan-done}
-use Prim.Native.Nat.{_≤_, _-_}
-use Rattle.trail.proofs.Scan.{Scanned}
+use Prim.Native.Nat.{_<_, _≤_, _-_}
+use Rattle.trail.proofs.Scan.{Scanned, scan-pass, scan-fail, scan-done}
+use Rattle.trail.proofs.Linking.{scan-from, scan-link}
 use Rattle.trail.proofs.walk.least.Statement.{statement}
 use Rattle.trail.proofs.walk.least.Tie as tie
 
 abbrev Inv-loop : tie.InvT-loop
-Inv-loop previous own counts v low top best₀ limit₀ i₀ best limit i = (i ≤ 32) × Scanned previous own counts v low top i best limit
+Inv-loop previous own after counts v from low top best₀ limit₀ i₀ best limit i = Scanned previous own counts v low top i best limit × (i < 32 → getD previous i 0 ≡ v)
 
 abbrev μ-loop : tie.MeasureT-loop
-μ-loop previous own counts v low top best₀ limit₀ i₀ best limit i = 32 - i
+μ-loop previous own after counts v from low top best₀ limit₀ i₀ best limit i = 32 - i
 
 loop-holds : tie.Need-loop-holds Inv-loop μ-loop
-loop-holds c = (omega arith, scan-start)
+loop-holds c = scan-from _ (c .before .before .before .before .pre .2)
 
-add-i : tie.Need-add-i Inv-loop μ-loop
-add-i c = search needs
+mul-i : tie.Need-mul-i Inv-loop μ-loop
+mul-i c = search needs
+
+shared-slice-read-i : tie.Need-shared-slice-read-i Inv-loop μ-loop
+shared-slice-read-i c = omega (arith, c .before .before .before .before .before .before .before .pre .1 .long)
 
 leads-requires : tie.Need-leads-requires Inv-loop μ-loop
-leads-requires c κs = search needs
+leads-requires c κs = (c .before .before .before .before .before .before .before .pre .0, c .before .loop-test .taken)
 
 mul-limit : tie.Need-mul-limit Inv-loop μ-loop
 mul-limit c = search needs
 
 shared-slice-read-limit : tie.Need-shared-slice-read-limit Inv-loop μ-loop
-shared-slice-read-limit c = search needs
+shared-slice-read-limit c = omega (arith, c .before .before .before .before .before .before .before .before .before .before .pre .0 .own)
 
 loop-less : tie.Need-loop-less Inv-loop μ-loop
-loop-less c = search needs
+loop-less c = omega (arith, c .before .before .before .before .before .before .before .before .before .before .pre .1 .each (c .before .before .before .before .before .loop .i) (c .before .before .before .before .loop-test .taken) .on)
 
 loop-again : tie.Need-loop-again Inv-loop μ-loop
-loop-again c = (omega arith, scan-pass (omega arith) (c .before .before .before .before .loop .inv .1) (c .before .before .leads .ensures .holds (c .before .if1 .taken)))
+loop-again c = scan-link _ _ (c .before .before .before .before .loop-test .taken) (c .before .before .before .before .before .before .before .before .before .before .pre .1) (c .before .before .before .before .before .loop .inv .1 (c .before .before .before .before .loop-test .taken)) (scan-pass (c .before .before .before .before .loop-test .taken) (c .before .before .before .before .before .loop .inv .0) (c .before .before .leads .ensures .holds (c .before .if1 .taken)))
 
 loop-less-2 : tie.Need-loop-less-2 Inv-loop μ-loop
-loop-less-2 c = search needs
+loop-less-2 c = omega (arith, c .before .before .before .before .before .before .before .before .before .pre .1 .each (c .before .before .before .before .loop .i) (c .before .before .before .loop-test .taken) .on)
 
 loop-again-2 : tie.Need-loop-again-2 Inv-loop μ-loop
-loop-again-2 c = (omega arith, scan-fail (c .before .before .before .loop .inv .1) (λ l. c .before .leads .ensures .fails (c .if1 .left) l))
+loop-again-2 c = scan-link _ _ (c .before .before .before .loop-test .taken) (c .before .before .before .before .before .before .before .before .before .pre .1) (c .before .before .before .before .loop .inv .1 (c .before .before .before .loop-test .taken)) (scan-fail (c .before .before .before .before .loop .inv .0) (λ l. c .before .leads .ensures .fails (c .if1 .left) l))
 
 returns : tie.Need-returns Inv-loop μ-loop
-returns c = scan-done (omega arith) (c .before .loop .inv .1)
+returns c = scan-done (omega arith) (c .before .loop .inv .0)
 
 pub least-spec : {M : Type 1} → statement M
 least-spec =
@@ -50,7 +55,8 @@ least-spec =
     Inv-loop
     μ-loop
     loop-holds
-    add-i
+    mul-i
+    shared-slice-read-i
     leads-requires
     mul-limit
     shared-slice-read-limit
