@@ -7,7 +7,7 @@ use native.Mathlib.Decide.{decLt}
 use borrow.Author.Count.{below-more}
 use lib.ListN.{length, getD, set, take, drop, replicate, length-set, length-map}
 use lib.Seq.{getD-set-same, getD-set-other}
-use Rattle.trail.specs.Search.{Leads, Following, Firsts, Afters, led}
+use Rattle.trail.specs.Search.{Leads, Following, Firsts, Afters, Rise, Missed, Clear, led}
 use Rattle.trail.proofs.Scan.{Scanned, scan-start}
 use Rattle.trail.proofs.Fill.{front-next}
 
@@ -43,6 +43,19 @@ module _ {ps os cs : List ℕ} {v low top best limit : ℕ} where
 
 pub scan-from : {ps os cs : List ℕ} {v low top : ℕ} (from : ℕ) → Following ps v 0 from → Scanned ps os cs v low top from 32 top × (from < 32 → getD ps from 0 ≡ v)
 scan-from from f = (scan-over 0 from (f .none) scan-start, f .here)
+
+pub rises : {ps ls : List ℕ} → Afters ps ls 32 → Rise ls
+rises a = record { long = a .long; on = λ i h. let g = a .each i h .on in omega arith }
+
+-- Row n, which leaves id, is not missed, nor is a row before it that leaves id: on to the row linked to it.
+pub clear-link : (ps ls cs ms : List ℕ) (id n : ℕ) → n < 32 → Afters ps ls 32 → (Missed cs ms n → ⊥) → Clear ps cs ms id n × (n < 32 → getD ps n 0 ≡ id) →
+    Clear ps cs ms id (getD ls n 0) × (getD ls n 0 < 32 → getD ps (getD ls n 0) 0 ≡ id)
+clear-link ps ls cs ms id n h a f c =
+    let l = a .each n h in
+    (λ j g b m e. elim (decLt j n) [ yes q ↦ c .0 j q b m e | no q ↦ elim (decLt n j) [ yes r ↦ l .none j g (omega arith) b (e ∙ sym (c .1 h)) | no r ↦ here j m (omega arith) ] ], λ g. l .here g ∙ c .1 h)
+  where
+    here : (j : ℕ) → Missed cs ms j → j ≡ n → ⊥
+    here j m e = f (subst (λ (z : ℕ). Missed cs ms z) e m)
 
 -- The ids that rows lead to, place by place.
 pub led-long : (os rows : List ℕ) → length (led os rows) ≡ length rows

@@ -63,6 +63,11 @@ pub record Afters (previouses afters : List ℕ) (n : ℕ) : Type 0 where
   pub long : length afters ≡ 32
   pub each : (i : ℕ) → i < n → Following previouses (getD previouses i 0) (i + 1) (getD afters i 0)
 
+-- Links lead to later rows.
+pub record Rise (afters : List ℕ) : Type 0 where
+  pub long : length afters ≡ 32
+  pub on : (i : ℕ) → i < 32 → i < getD afters i 0
+
 -- The rows of a table are linked.
 pub record Linked (previouses owns firsts afters : List ℕ) : Type 0 where
   pub first : Firsts previouses owns firsts 32
@@ -89,6 +94,10 @@ pub record Answer (list : List (List ℕ)) (k skip : ℕ) (found : Bool) (left :
 pub record Missed (counts marks : List ℕ) (j : ℕ) : Type 0 where
   pub unused : 0 < getD counts j 0
   pub unmarked : getD marks j 0 ≡ 0
+
+-- None of the first n rows that leave id is missed.
+abbrev pub Clear : List ℕ → List ℕ → List ℕ → ℕ → ℕ → Type 0
+Clear previouses counts marks id n = (j : ℕ) → j < n → j < 32 → Missed counts marks j → getD previouses j 0 ≡ id → ⊥
 
 -- None of the first n rows that are marked and not used up leads to id.
 abbrev pub Away : List ℕ → List ℕ → List ℕ → ℕ → ℕ → Type 0

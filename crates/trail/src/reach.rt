@@ -1,11 +1,12 @@
 // Whether every unused pair can be reached. The marking is not proved right: where it misses a pair, a second pass over
-// the table checks that nothing leads from the marked pairs to the missed ones, and the answer rests on that alone.
+// the linked rows checks that nothing leads from the marked pairs to the missed ones, and the answer rests on that alone.
 ghost use mathlib.Core.Path.{_≡_};
 ghost use mathlib.Core.Bool.{true, false};
-ghost use Prim.Native.Nat.{_<_};
+ghost use mathlib.Core.List.{List};
+ghost use Prim.Native.Nat.{ℕ, _<_};
 ghost use lib.ListN.{length};
 ghost use Rattle.trail.specs.Trails.{pairsOf};
-ghost use Rattle.trail.specs.Search.{Columns, Away, Apart, Missed, Lost};
+ghost use Rattle.trail.specs.Search.{Columns, Apart, Missed, Lost, Following, Afters, Linked, Rise, Clear};
 
 // The rows with this previous id, a bit for each.
 fn rows_from(previous: &[u64], id: u64) -> u64
@@ -83,56 +84,60 @@ fn marks(rows: u64) -> [u8; 32] {
     marks
 }
 
-// Whether a marked unused row leads to this id.
-fn entered(own: &[u64], counts: &[u8], marks: &[u8], id: u64) -> bool
-    requires { ⌜ (length (now own) ≡ 32) × (length (now counts) ≡ 32) × (length (now marks) ≡ 32) ⌝ }
-    ensures { λ r. ⌜ (r ≡ false → Away (now (own .entry)) (now (counts .entry)) (now (marks .entry)) id 32) ⌝ }
+// Whether one of the rows linked from `from` on is missed: unused and not marked.
+fn met(after: &[usize], counts: &[u8], marks: &[u8], from: usize) -> bool
+    requires { ⌜ Rise (now after) × (length (now counts) ≡ 32) × (length (now marks) ≡ 32) ⌝ }
+    ensures { λ r. ⌜ (r ≡ false → (previouses : List ℕ) (id : ℕ) → Afters previouses (now (after .entry)) 32 → Following previouses id 0 from → Clear previouses (now (counts .entry)) (now (marks .entry)) id 32) ⌝ }
 {
-    let mut i = 0;
+    let mut i = from;
     while i < 32 {
         let at = i;
-        i += 1;
-        if own[at] == id {
-            if 0 < counts[at] {
-                if marks[at] != 0 {
-                    return true;
-                }
+        i = after[at];
+        if 0 < counts[at] {
+            if marks[at] == 0 {
+                return true;
             }
         }
     }
     false
 }
 
-// A missed row, if there is one and no missed row leaves v or an id that a marked row leads to; else 32.
-fn shut(previous: &[u64], own: &[u64], counts: &[u8], marks: &[u8], v: u64) -> usize
-    requires { ⌜ Columns (now previous) (now own) (now counts) × (length (now marks) ≡ 32) ⌝ }
-    ensures { λ r. ⌜ (r < 32 → Missed (now (counts .entry)) (now (marks .entry)) r × Apart (now (previous .entry)) (now (own .entry)) (now (counts .entry)) (now (marks .entry)) v 32) ⌝ }
+// A missed row, if there is one and none is linked from `from` on or can follow a marked one; else 32.
+fn shut(first: &[usize], after: &[usize], counts: &[u8], marks: &[u8], from: usize) -> usize
+    requires { ⌜ (length (now first) ≡ 32) × Rise (now after) × (length (now counts) ≡ 32) × (length (now marks) ≡ 32) ⌝ }
+    ensures { λ r. ⌜ (r < 32 → Missed (now (counts .entry)) (now (marks .entry)) r × ((previouses owns : List ℕ) (v : ℕ) → Linked previouses owns (now (first .entry)) (now (after .entry)) → Following previouses v 0 from → Apart previouses owns (now (counts .entry)) (now (marks .entry)) v 32)) ⌝ }
 {
+    if met(after, counts, marks, from) {
+        return 32;
+    }
     let mut missed = 32;
-    let mut j = 0;
-    while j < 32 {
-        let at = j;
-        j += 1;
+    let mut i = 0;
+    while i < 32 {
+        let at = i;
+        i += 1;
         if 0 < counts[at] {
             if marks[at] == 0 {
-                let id = previous[at];
-                if id == v {
-                    return 32;
-                }
-                if entered(own, counts, marks, id) {
-                    return 32;
-                }
                 missed = at;
+            } else if met(after, counts, marks, first[at]) {
+                return 32;
             }
         }
     }
     missed
 }
 
-// Whether some unused pair is out of reach from v, so that no trail goes on from there.
-pub fn lost(previous: &[u64], own: &[u64], next: &[u64], counts: &[u8], v: u64) -> bool
-    requires { ⌜ Columns (now previous) (now own) (now counts) × (length (now next) ≡ 32) ⌝ }
-    ensures { λ r. ⌜ (r ≡ true → Lost v (pairsOf (now (previous .entry)) (now (own .entry)) (now (counts .entry)))) ⌝ }
+// Whether some unused pair is out of reach from v, so that no trail goes on from there. `from` is the first row that leaves v.
+pub fn lost(
+    previous: &[u64],
+    next: &[u64],
+    first: &[usize],
+    after: &[usize],
+    counts: &[u8],
+    v: u64,
+    from: usize,
+) -> bool
+    requires { ⌜ (length (now previous) ≡ 32) × (length (now next) ≡ 32) × (length (now first) ≡ 32) × Rise (now after) × (length (now counts) ≡ 32) ⌝ }
+    ensures { λ r. ⌜ (r ≡ true → (owns : List ℕ) → Columns (now (previous .entry)) owns (now (counts .entry)) → Linked (now (previous .entry)) owns (now (first .entry)) (now (after .entry)) → Following (now (previous .entry)) v 0 from → Lost v (pairsOf (now (previous .entry)) owns (now (counts .entry)))) ⌝ }
 {
     let unused = unused_rows(counts);
     let seen = reached(next, unused, rows_from(previous, v));
@@ -140,6 +145,6 @@ pub fn lost(previous: &[u64], own: &[u64], next: &[u64], counts: &[u8], v: u64) 
         return false;
     }
     let marks = marks(seen);
-    let missed = shut(previous, own, counts, &marks, v);
+    let missed = shut(first, after, counts, &marks, from);
     missed < 32
 }

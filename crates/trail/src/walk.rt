@@ -155,7 +155,7 @@ pub fn search(
         return missing(skip - 1);
     }
     if fork {
-        if lost(previous, own, next, &counts, v) {
+        if lost(previous, next, first, after, &counts, v, from) {
             return missing(skip);
         }
     }

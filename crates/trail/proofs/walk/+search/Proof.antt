@@ -5,7 +5,7 @@ use Prim.Native.Nat.{ℕ, _<_}
 use native.Mathlib.Omega.{arith}
 use borrow.Fn.Kinds.{In}
 use borrow.Fn.PlainCycle.{Measures, is, falls, and}
-use Rattle.trail.proofs.Linking.{led-long}
+use Rattle.trail.proofs.Linking.{rises, led-long}
 use Rattle.trail.proofs.Turn.{Turning, leaf-answer, leaf-left, lost-answer, turning-start, onward-none, least-none, ready-spent, found-answer, past-onward, room, room-less}
 use Rattle.trail.proofs.walk.search.Reads as search′
 use Rattle.trail.proofs.walk.search.Kinds as search-kinds
@@ -51,13 +51,13 @@ search-slice-aggregate-lost : (t : ℕ) → search-lts.Need-slice-aggregate-lost
 search-slice-aggregate-lost t c = search needs
 
 search-lost-requires : (t : ℕ) → search-lts.Need-lost-requires (claims t) (at t) search′.Post Inv-loop μ-loop
-search-lost-requires t c κs = (c .before .before .before .before .before .before .before .before .pre .1 .0 .columns, c .before .before .before .before .before .before .before .before .pre .1 .0 .next)
+search-lost-requires t c κs = (c .before .before .before .before .before .before .before .before .pre .1 .0 .columns .previous, c .before .before .before .before .before .before .before .before .pre .1 .0 .next, c .before .before .before .before .before .before .before .before .pre .1 .1 .first .long, rises (c .before .before .before .before .before .before .before .before .pre .1 .1 .after), c .before .before .before .before .before .before .before .before .pre .1 .0 .columns .count)
 
 search-missing-requires-2 : (t : ℕ) → search-lts.Need-missing-requires-2 (claims t) (at t) search′.Post Inv-loop μ-loop
 search-missing-requires-2 t c κs = search needs
 
 search-returns-3 : (t : ℕ) → search-lts.Need-returns-3 (claims t) (at t) search′.Post Inv-loop μ-loop
-search-returns-3 t c = lost-answer _ _ _ _ _ _ _ _ _ _ _ (c .before .before .before .before .before .before .before .before .before .before .before .pre .1 .0) (c .before .before .lost .ensures (c .before .if4 .taken)) (c .before .before .before .before .before .if1 .left) (c .missing2 .ensures .0) (c .missing2 .ensures .1)
+search-returns-3 t c = lost-answer _ _ _ _ _ _ _ _ _ _ _ (c .before .before .before .before .before .before .before .before .before .before .before .pre .1 .0) (c .before .before .lost .ensures (c .before .if4 .taken) _ (c .before .before .before .before .before .before .before .before .before .before .before .pre .1 .0 .columns) (c .before .before .before .before .before .before .before .before .before .before .before .pre .1 .1) (c .before .before .before .before .before .before .before .before .before .before .before .pre .1 .2)) (c .before .before .before .before .before .if1 .left) (c .missing2 .ensures .0) (c .missing2 .ensures .1)
 
 search-slice-aggregate-least : (t : ℕ) → search-lts.Need-slice-aggregate-least (claims t) (at t) search′.Post Inv-loop μ-loop
 search-slice-aggregate-least t c = search needs
