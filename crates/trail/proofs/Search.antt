@@ -87,11 +87,12 @@ pub nothing : (k skip : ℕ) (ids : List ℕ) → Answer [] k skip false skip id
 nothing k skip ids = record { got = λ e. absurd (let n : _≡_ {A = ℕ} 0 1 = cc in omega arith); past = λ e. omega arith }
 
 -- The one trail with no id.
-pub leaf-found : (left : ℕ) (ids : List ℕ) → length ids ≡ 32 → Answer ([] ∷ []) 0 0 true left ids
-leaf-found left ids e = record { got = λ h. (omega arith, drop-of-length-le ids {i = 32} (omega arith)); past = λ h. absurd (let n : _≡_ {A = ℕ} 0 1 = cc in omega arith) }
+pub leaf-found : (skip left : ℕ) (ids : List ℕ) {found : Bool} → found ≡ true → skip ≡ 0 → length ids ≡ 32 → Answer ([] ∷ []) 0 skip found left ids
+leaf-found skip left ids f z e =
+    rw (f, z) (record { got = λ h. (omega arith, drop-of-length-le ids {i = 32} (omega arith)); past = λ h. absurd (let n : _≡_ {A = ℕ} 0 1 = cc in omega arith) })
 
-pub leaf-past : (skip : ℕ) (ids : List ℕ) → 0 < skip → Answer ([] ∷ []) 0 skip false (skip - 1) ids
-leaf-past skip ids h = record { got = λ e. absurd (let n : _≡_ {A = ℕ} 0 1 = cc in omega arith); past = λ e. omega arith }
+pub leaf-past : (skip left : ℕ) (ids : List ℕ) (found : Bool) → 0 < skip → found ≡ false → left ≡ skip - 1 → Answer ([] ∷ []) 0 skip found left ids
+leaf-past skip left ids found h f e = rw (f, e) (record { got = λ g. absurd (let n : _≡_ {A = ℕ} 0 1 = cc in omega arith); past = λ g. omega arith })
 
 drop-put : (k x : ℕ) (ids : List ℕ) → length ids ≡ 32 → k < 32 → drop (32 - suc k) (set ids (32 - suc k) x) ≡ x ∷ drop (32 - k) ids
 drop-put k x ids e h =

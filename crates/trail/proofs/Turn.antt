@@ -16,7 +16,7 @@ use Rattle.trail.proofs.Tally.{total-set, PairRow, pair-row, row-pair, 
 use Rattle.trail.proofs.Trails.{step-back, every-branch, sound}
 use Rattle.trail.proofs.Weigh.{owns-cover}
 use Rattle.trail.proofs.Linking.{led-long, led-set}
-use Rattle.trail.proofs.Search.{no-branch, next-branch, nothing, leaf-found, leaf-past, branch-found, branch-past}
+use Rattle.trail.proofs.Search.{no-branch, next-branch, nothing, branch-found, branch-past}
 
 -- A search that goes on with the ids from low on, `left` trails still to be skipped, answers the whole search.
 pub record Onward (top k : ℕ) (ids : List ℕ) (v : ℕ) (pairs : Multiset) (skip left low : ℕ) : Type 0 where
@@ -24,14 +24,9 @@ pub record Onward (top k : ℕ) (ids : List ℕ) (v : ℕ) (pairs : Multiset) (s
       Answer (trailsUpTo top k ids v pairs) k skip found left′ places
 
 module _ (top : ℕ) (ids : List ℕ) (v : ℕ) (pairs : Multiset) where
-  pub leaf-answer : (k skip left : ℕ) (places : List ℕ) → k ≡ 0 → skip ≡ 0 → length places ≡ 32 → Answer (trailsUpTo top k ids v pairs) k skip true left places
+  pub leaf-answer : (k skip left : ℕ) (found : Bool) (places : List ℕ) → k ≡ 0 → Answer ([] ∷ []) 0 skip found left places → Answer (trailsUpTo top k ids v pairs) k skip found left places
   unfolding trailsUpTo
-  leaf-answer k skip left places e f h = rw (e, f) (leaf-found left places h)
-
-  pub leaf-left : (k skip left : ℕ) (found : Bool) (places : List ℕ) → k ≡ 0 → (skip ≡ 0 → ⊥) → found ≡ false → left ≡ skip - 1 →
-      Answer (trailsUpTo top k ids v pairs) k skip found left places
-  unfolding trailsUpTo
-  leaf-left k skip left found places e f g h = rw (e, g, h) (leaf-past skip places (omega arith))
+  leaf-answer k skip left found places e a = rw e a
 
   pub onward-start : (k skip : ℕ) → (k ≡ 0 → ⊥) → Onward top k ids v pairs skip skip 0
   onward-start zero skip h = absurd (h refl)

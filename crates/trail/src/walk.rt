@@ -8,8 +8,8 @@ use crate::table::balanced;
 use crate::table::narrow;
 ghost use mathlib.Core.Path.{_≡_};
 ghost use mathlib.Core.Bool.{false};
-ghost use mathlib.Core.List.{_++_};
-ghost use Prim.Native.Nat.{_<_, _≤_, _+_, _-_};
+ghost use mathlib.Core.List.{List, [], _∷_, _++_};
+ghost use Prim.Native.Nat.{ℕ, _<_, _≤_, _+_, _-_};
 ghost use lib.ListN.{getD, set, drop, replicate};
 ghost use Rattle.trail.specs.Trails.{pairsOf, rising, total, trailsOver};
 ghost use Rattle.trail.specs.Search.{Columns, Leads, Decides, Least, Ready, Answer, Following, Afters, Linked, led, trailsUpTo};
@@ -115,6 +115,20 @@ fn missing(skip: u64) -> Outcome
     }
 }
 
+// No pair is left, so a trail is complete: the numbered one, or one that is skipped.
+fn complete(skip: u64) -> Outcome
+    ensures { λ r. ⌜ ((owns : List ℕ) → Answer ([] ∷ []) 0 skip (r .found) (r .left) (led owns (r .rows))) ⌝ }
+{
+    if skip == 0 {
+        return Outcome {
+            found: true,
+            left: 0,
+            rows: [0; 32],
+        };
+    }
+    missing(skip - 1)
+}
+
 // Whether there are several ids to go on to: it is known already, or another row leads on.
 fn several(known: bool, row: usize) -> bool {
     if known {
@@ -145,14 +159,7 @@ pub fn search(
     ensures { λ r. ⌜ Answer (trailsUpTo top k (rising (now (own .entry))) v (pairsOf (now (previous .entry)) (now (own .entry)) counts)) k skip (r .found) (r .left) (led (now (own .entry)) (r .rows)) ⌝ }
 {
     if k == 0 {
-        if skip == 0 {
-            return Outcome {
-                found: true,
-                left: 0,
-                rows: [0; 32],
-            };
-        }
-        return missing(skip - 1);
+        return complete(skip);
     }
     if fork {
         if lost(previous, next, first, after, &counts, v, from) {
@@ -166,15 +173,17 @@ pub fn search(
         let x = own[i];
         let then = above(previous, own, after, &counts, v, from, x, top);
         many = several(many, then);
+        let fewer = spend(counts, i);
+        let start = first[i];
         let below = search(
             previous,
             own,
             next,
             first,
             after,
-            spend(counts, i),
+            fewer,
             x,
-            first[i],
+            start,
             LAST,
             k - 1,
             left,

@@ -5,13 +5,14 @@ use Prim.Native.Nat.{ℕ, _<_}
 use native.Mathlib.Omega.{arith}
 use borrow.Fn.Kinds.{In}
 use borrow.Fn.PlainCycle.{Measures, is, falls, and}
-use Rattle.trail.proofs.Linking.{rises, led-long}
-use Rattle.trail.proofs.Turn.{Turning, leaf-answer, leaf-left, lost-answer, turning-start, onward-none, least-none, ready-spent, found-answer, past-onward, room, room-less}
+use Rattle.trail.proofs.Linking.{rises}
+use Rattle.trail.proofs.Turn.{Turning, leaf-answer, lost-answer, turning-start, onward-none, least-none, ready-spent, found-answer, past-onward, room, room-less}
 use Rattle.trail.proofs.walk.search.Reads as search′
 use Rattle.trail.proofs.walk.search.Kinds as search-kinds
 use Rattle.trail.proofs.walk.+search.Lts-search as search-lts
 use Rattle.trail.proofs.reach.lost.Reads as lost-reads
 use Rattle.trail.proofs.walk.above.Reads as above-reads
+use Rattle.trail.proofs.walk.complete.Reads as complete-reads
 use Rattle.trail.proofs.walk.least.Reads as least-reads
 use Rattle.trail.proofs.walk.missing.Reads as missing-reads
 use Rattle.trail.proofs.walk.several.Reads as several-reads
@@ -27,7 +28,7 @@ at t = and 5 search-kinds.ps (is 5 search-kinds.ps μ-search t) search′.Pre
 
 -- What the callees ask and give, the search itself below the measure t.
 abbrev claims : ℕ → search-lts.Claims
-claims t = (missing-reads.Asked, missing-reads.Learnt, lost-reads.Asked, lost-reads.Learnt, least-reads.Asked, least-reads.Learnt, above-reads.Asked, above-reads.Learnt, several-reads.Asked, several-reads.Learnt, spend-reads.Asked, spend-reads.Learnt, and 5 search-kinds.ps (falls 5 search-kinds.ps _<_ μ-search t) search′.Pre, search′.Post)
+claims t = (complete-reads.Asked, complete-reads.Learnt, lost-reads.Asked, lost-reads.Learnt, missing-reads.Asked, missing-reads.Learnt, least-reads.Asked, least-reads.Learnt, above-reads.Asked, above-reads.Learnt, several-reads.Asked, several-reads.Learnt, spend-reads.Asked, spend-reads.Learnt, and 5 search-kinds.ps (falls 5 search-kinds.ps _<_ μ-search t) search′.Pre, search′.Post)
 
 abbrev Inv-loop : search-lts.InvT-loop
 Inv-loop previous own next first after v from top k skip fork counts left₀ many₀ i₀ left many i = Turning previous own counts top k v skip left i
@@ -35,17 +36,11 @@ Inv-loop previous own next first after v from top k skip fork counts left₀ man
 abbrev μ-loop : search-lts.MeasureT-loop
 μ-loop previous own next first after v from top k skip fork counts left₀ many₀ i₀ left many i = room own top i
 
+search-complete-requires : (t : ℕ) → search-lts.Need-complete-requires (claims t) (at t) search′.Post Inv-loop μ-loop
+search-complete-requires t c κs = search needs
+
 search-returns : (t : ℕ) → search-lts.Need-returns (claims t) (at t) search′.Post Inv-loop μ-loop
-search-returns t c = leaf-answer _ _ _ _ _ _ _ _ (c .before .if1 .taken) (c .if2 .taken) (led-long _ _)
-
-search-sub-missing : (t : ℕ) → search-lts.Need-sub-missing (claims t) (at t) search′.Post Inv-loop μ-loop
-search-sub-missing t c = omega arith
-
-search-missing-requires : (t : ℕ) → search-lts.Need-missing-requires (claims t) (at t) search′.Post Inv-loop μ-loop
-search-missing-requires t c κs = search needs
-
-search-returns-2 : (t : ℕ) → search-lts.Need-returns-2 (claims t) (at t) search′.Post Inv-loop μ-loop
-search-returns-2 t c = leaf-left _ _ _ _ _ _ _ _ _ (c .before .before .if1 .taken) (c .before .if2 .left) (c .missing .ensures .0) (c .missing .ensures .1)
+search-returns t c = leaf-answer _ _ _ _ _ _ _ _ _ (c .before .if1 .taken) (c .complete .ensures _)
 
 search-slice-aggregate-lost : (t : ℕ) → search-lts.Need-slice-aggregate-lost (claims t) (at t) search′.Post Inv-loop μ-loop
 search-slice-aggregate-lost t c = search needs
@@ -53,11 +48,11 @@ search-slice-aggregate-lost t c = search needs
 search-lost-requires : (t : ℕ) → search-lts.Need-lost-requires (claims t) (at t) search′.Post Inv-loop μ-loop
 search-lost-requires t c κs = (c .before .before .before .before .before .before .before .before .pre .1 .0 .columns .previous, c .before .before .before .before .before .before .before .before .pre .1 .0 .next, c .before .before .before .before .before .before .before .before .pre .1 .1 .first .long, rises (c .before .before .before .before .before .before .before .before .pre .1 .1 .after), c .before .before .before .before .before .before .before .before .pre .1 .0 .columns .count)
 
-search-missing-requires-2 : (t : ℕ) → search-lts.Need-missing-requires-2 (claims t) (at t) search′.Post Inv-loop μ-loop
-search-missing-requires-2 t c κs = search needs
+search-missing-requires : (t : ℕ) → search-lts.Need-missing-requires (claims t) (at t) search′.Post Inv-loop μ-loop
+search-missing-requires t c κs = search needs
 
-search-returns-3 : (t : ℕ) → search-lts.Need-returns-3 (claims t) (at t) search′.Post Inv-loop μ-loop
-search-returns-3 t c = lost-answer _ _ _ _ _ _ _ _ _ _ _ (c .before .before .before .before .before .before .before .before .before .before .before .pre .1 .0) (c .before .before .lost .ensures (c .before .if4 .taken) _ (c .before .before .before .before .before .before .before .before .before .before .before .pre .1 .0 .columns) (c .before .before .before .before .before .before .before .before .before .before .before .pre .1 .1) (c .before .before .before .before .before .before .before .before .before .before .before .pre .1 .2)) (c .before .before .before .before .before .if1 .left) (c .missing2 .ensures .0) (c .missing2 .ensures .1)
+search-returns-2 : (t : ℕ) → search-lts.Need-returns-2 (claims t) (at t) search′.Post Inv-loop μ-loop
+search-returns-2 t c = lost-answer _ _ _ _ _ _ _ _ _ _ _ (c .before .before .before .before .before .before .before .before .before .before .before .pre .1 .0) (c .before .before .lost .ensures (c .before .if3 .taken) _ (c .before .before .before .before .before .before .before .before .before .before .before .pre .1 .0 .columns) (c .before .before .before .before .before .before .before .before .before .before .before .pre .1 .1) (c .before .before .before .before .before .before .before .before .before .before .before .pre .1 .2)) (c .before .before .before .before .before .if1 .left) (c .missing .ensures .0) (c .missing .ensures .1)
 
 search-slice-aggregate-least : (t : ℕ) → search-lts.Need-slice-aggregate-least (claims t) (at t) search′.Post Inv-loop μ-loop
 search-slice-aggregate-least t c = search needs
@@ -86,11 +81,11 @@ search-several-requires t c κs = search needs
 search-spend-requires : (t : ℕ) → search-lts.Need-spend-requires (claims t) (at t) search′.Post Inv-loop μ-loop
 search-spend-requires t c κs = (c .before .before .before .before .loop-test .taken, c .before .before .before .before .before .loop .inv .least .row (c .before .before .before .before .loop-test .taken) .unused)
 
-search-mul-search : (t : ℕ) → search-lts.Need-mul-search (claims t) (at t) search′.Post Inv-loop μ-loop
-search-mul-search t c = search needs
+search-mul-start : (t : ℕ) → search-lts.Need-mul-start (claims t) (at t) search′.Post Inv-loop μ-loop
+search-mul-start t c = search needs
 
-search-shared-slice-read-search : (t : ℕ) → search-lts.Need-shared-slice-read-search (claims t) (at t) search′.Post Inv-loop μ-loop
-search-shared-slice-read-search t c = omega (arith, c .before .before .before .before .before .before .before .before .before .before .before .before .before .before .before .before .before .pre .1 .1 .first .long, c .before .before .before .before .before .before .loop-test .taken)
+search-shared-slice-read-start : (t : ℕ) → search-lts.Need-shared-slice-read-start (claims t) (at t) search′.Post Inv-loop μ-loop
+search-shared-slice-read-start t c = omega (arith, c .before .before .before .before .before .before .before .before .before .before .before .before .before .before .before .before .before .pre .1 .1 .first .long, c .before .before .before .before .before .before .loop-test .taken)
 
 search-sub-search : (t : ℕ) → search-lts.Need-sub-search (claims t) (at t) search′.Post Inv-loop μ-loop
 search-sub-search t c = omega (arith, c .before .before .before .before .before .before .before .before .before .before .before .if1 .left)
@@ -107,31 +102,29 @@ search-sub-rows t c = omega (arith, c .before .before .before .before .before .b
 search-array-write-rows : (t : ℕ) → search-lts.Need-array-write-rows (claims t) (at t) search′.Post Inv-loop μ-loop
 search-array-write-rows t c = omega (arith, c .before .before .before .before .before .before .before .before .before .before .before .before .before .before .if1 .left)
 
-search-returns-4 : (t : ℕ) → search-lts.Need-returns-4 (claims t) (at t) search′.Post Inv-loop μ-loop
-search-returns-4 t c = found-answer _ _ _ _ _ _ 18446744073709551615 _ _ _ _ _ _ (c .before .before .before .before .before .before .before .before .before .before .before .before .before .before .before .before .before .before .before .before .pre .1 .0) (c .before .before .before .before .before .before .before .before .before .before .before .before .before .before .if1 .left) (c .before .before .before .before .before .before .before .before .before .before .loop .inv .onward) (c .before .before .before .before .before .before .before .before .before .before .loop .inv .least) (c .before .before .before .before .before .before .before .before .before .loop-test .taken) (c .before .before .before .before .spend .ensures) (λ i. omega (arith, c .before .before .before .before .before .before .before .before .before .before .before .before .before .before .before .before .before .before .shared-slice-known2 .given i)) _ _ _ _ (search needs) (c .before .if5 .taken) (c .before .before .search .ensures)
+search-returns-3 : (t : ℕ) → search-lts.Need-returns-3 (claims t) (at t) search′.Post Inv-loop μ-loop
+search-returns-3 t c = found-answer _ _ _ _ _ _ 18446744073709551615 _ _ _ _ _ _ (c .before .before .before .before .before .before .before .before .before .before .before .before .before .before .before .before .before .before .before .before .pre .1 .0) (c .before .before .before .before .before .before .before .before .before .before .before .before .before .before .if1 .left) (c .before .before .before .before .before .before .before .before .before .before .loop .inv .onward) (c .before .before .before .before .before .before .before .before .before .before .loop .inv .least) (c .before .before .before .before .before .before .before .before .before .loop-test .taken) (c .before .before .before .before .spend .ensures) (λ i. omega (arith, c .before .before .before .before .before .before .before .before .before .before .before .before .before .before .before .before .before .before .shared-slice-known2 .given i)) _ _ _ _ (search needs) (c .before .if4 .taken) (c .before .before .search .ensures)
 
 search-loop-less : (t : ℕ) → search-lts.Need-loop-less (claims t) (at t) search′.Post Inv-loop μ-loop
 search-loop-less t c = room-less _ _ _ _ _ _ _ (c .before .before .before .before .before .before .before .before .loop-test .taken) (c .before .before .before .before .before .before .before .before .before .loop .inv .least .row (c .before .before .before .before .before .before .before .before .loop-test .taken) .below) (c .before .before .before .before .before .above .ensures)
 
 search-loop-again : (t : ℕ) → search-lts.Need-loop-again (claims t) (at t) search′.Post Inv-loop μ-loop
-search-loop-again t c = record { low = _; onward = past-onward _ _ _ _ _ _ 18446744073709551615 _ _ _ _ _ _ (c .before .before .before .before .before .before .before .before .before .before .before .before .before .before .before .before .before .before .before .pre .1 .0) (c .before .before .before .before .before .before .before .before .before .before .before .before .before .if1 .left) (c .before .before .before .before .before .before .before .before .before .loop .inv .onward) (c .before .before .before .before .before .before .before .before .before .loop .inv .least) (c .before .before .before .before .before .before .before .before .loop-test .taken) (c .before .before .before .spend .ensures) (λ i. omega (arith, c .before .before .before .before .before .before .before .before .before .before .before .before .before .before .before .before .before .shared-slice-known2 .given i)) _ _ _ (c .if5 .left) (c .before .search .ensures); least = c .before .before .before .before .before .above .ensures }
+search-loop-again t c = record { low = _; onward = past-onward _ _ _ _ _ _ 18446744073709551615 _ _ _ _ _ _ (c .before .before .before .before .before .before .before .before .before .before .before .before .before .before .before .before .before .before .before .pre .1 .0) (c .before .before .before .before .before .before .before .before .before .before .before .before .before .if1 .left) (c .before .before .before .before .before .before .before .before .before .loop .inv .onward) (c .before .before .before .before .before .before .before .before .before .loop .inv .least) (c .before .before .before .before .before .before .before .before .loop-test .taken) (c .before .before .before .spend .ensures) (λ i. omega (arith, c .before .before .before .before .before .before .before .before .before .before .before .before .before .before .before .before .before .shared-slice-known2 .given i)) _ _ _ (c .if4 .left) (c .before .search .ensures); least = c .before .before .before .before .before .above .ensures }
 
-search-missing-requires-3 : (t : ℕ) → search-lts.Need-missing-requires-3 (claims t) (at t) search′.Post Inv-loop μ-loop
-search-missing-requires-3 t c κs = search needs
+search-missing-requires-2 : (t : ℕ) → search-lts.Need-missing-requires-2 (claims t) (at t) search′.Post Inv-loop μ-loop
+search-missing-requires-2 t c κs = search needs
 
-search-returns-5 : (t : ℕ) → search-lts.Need-returns-5 (claims t) (at t) search′.Post Inv-loop μ-loop
-search-returns-5 t c = onward-none _ _ _ _ _ _ _ _ _ _ _ (c .before .before .loop .inv .onward) (least-none _ _ _ (c .before .before .before .before .before .before .before .before .before .before .before .before .pre .1 .0 .columns) _ _ _ _ _ (c .before .before .loop .inv .least) (c .before .loop-test .left)) (c .missing3 .ensures .0) (c .missing3 .ensures .1)
+search-returns-4 : (t : ℕ) → search-lts.Need-returns-4 (claims t) (at t) search′.Post Inv-loop μ-loop
+search-returns-4 t c = onward-none _ _ _ _ _ _ _ _ _ _ _ (c .before .before .loop .inv .onward) (least-none _ _ _ (c .before .before .before .before .before .before .before .before .before .before .before .before .pre .1 .0 .columns) _ _ _ _ _ (c .before .before .loop .inv .least) (c .before .loop-test .left)) (c .missing2 .ensures .0) (c .missing2 .ensures .1)
 
 pub +search-spec : {M : Type 1} → statement M
 +search-spec = close μ-search λ t. search-lts.spec (claims t) (at t) search′.Post Inv-loop μ-loop
+    (search-complete-requires t)
     (search-returns t)
-    (search-sub-missing t)
-    (search-missing-requires t)
-    (search-returns-2 t)
     (search-slice-aggregate-lost t)
     (search-lost-requires t)
-    (search-missing-requires-2 t)
-    (search-returns-3 t)
+    (search-missing-requires t)
+    (search-returns-2 t)
     (search-slice-aggregate-least t)
     (search-least-requires t)
     (search-loop-holds t)
@@ -141,15 +134,15 @@ pub +search-spec : {M : Type 1} → statement M
     (search-above-requires t)
     (search-several-requires t)
     (search-spend-requires t)
-    (search-mul-search t)
-    (search-shared-slice-read-search t)
+    (search-mul-start t)
+    (search-shared-slice-read-start t)
     (search-sub-search t)
     (search-search-requires t)
     (search-cast-rows t)
     (search-sub-rows t)
     (search-array-write-rows t)
-    (search-returns-4 t)
+    (search-returns-3 t)
     (search-loop-less t)
     (search-loop-again t)
-    (search-missing-requires-3 t)
-    (search-returns-5 t)
+    (search-missing-requires-2 t)
+    (search-returns-4 t)
