@@ -23,11 +23,12 @@ use Rattle.protocol.specs.Lent.{lent}
 use Rattle.protocol.specs.State.{initial}
 use Rattle.protocol.specs.Receiver.{Result, numberOf, unchanged, takeMessage}
 use Rattle.state.specs.declared.Receiver.{Receiver}
+use Rattle.state.specs.declared.Taken.{Taken}
 use Rattle.copying.specs.Copying.{pileOf}
 use Rattle.state.specs.Receivers.{phaseOf, idle, stateOf}
 use Rattle.state.specs.Bytes.{stateIn, stateRows, Stores}
-use Rattle.receiver.specs.declared.Taken.{Taken}
-use Rattle.receiver.specs.Calls.{stateAfter, ReceiverSetUp, Takes, Asked}
+use Rattle.taking.specs.Taking.{Takes}
+use Rattle.receiver.specs.Calls.{stateAfter, ReceiverSetUp, Asked}
 use Rattle.held.specs.Held.{decode, bytesAfter, HeldSetUp, HeldTakes}
 
 -- A state of fewer than 2,144 bytes is refused by 1.

@@ -63,7 +63,7 @@ pub fn take(
         (now (shingles .exit)) (now (cells .entry)) (now (message .entry)) (now (output .entry)) (now (output .exit)) r ⌝ }
 {
     let before = state::bytes::load(state);
-    let taken = receiver::take(before, string, nodes, shingles, cells, message, output);
+    let taken = taking::take(before, string, nodes, shingles, cells, message, output);
     let answer = taken.answer;
     if refuses(answer) {
         return answer;

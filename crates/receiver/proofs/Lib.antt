@@ -1,8 +1,2 @@
--- Laws of the receiver's calls.
-pub mod Advancing
-pub mod Opening
-pub mod Node
-pub mod Composition
-pub mod Literal
-pub mod Hearing
-pub mod Taking
+-- Laws of setting a receiver up and of writing its query.
+pub mod Calls

@@ -1,18 +1,17 @@
--- What a receiver's calls promise: what crate `protocol` defines, for every state, table, message and buffer.
+-- What setting a receiver up and writing its query promise: what crate `protocol` defines, for every state, table and buffer.
 use mathlib.Core.Bool.{true, cond}
 use mathlib.Core.List.{List}
 use mathlib.Core.Path.{_≡_}
-use Prim.Native.Nat.{ℕ, _%_, _^_, _<_}
+use Prim.Native.Nat.{ℕ, _%_, _^_}
 use lib.Dec.{eqb}
 use Rattle.tree.specs.declared.Settings.{Settings}
 use Rattle.setup.specs.Questions.{setupRefusal}
 use Rattle.setup.specs.Tables.{SetUp}
 use Rattle.protocol.specs.Lent.{lent}
-use Rattle.protocol.specs.Receiver.{takeMessage, writeQuery}
+use Rattle.protocol.specs.Receiver.{writeQuery}
 use Rattle.state.specs.declared.Receiver.{Receiver}
+use Rattle.state.specs.declared.Taken.{Taken}
 use Rattle.state.specs.Receivers.{idle, stateOf}
-use Rattle.receiver.specs.declared.Taken.{Taken}
-use Rattle.receiver.specs.Steps.{Gives}
 
 -- The state that setup makes: "A receiver is set up with a session number, taken modulo 2^24"; by a no "No state is made", and what
 -- comes back is the state of zeros.
@@ -23,12 +22,6 @@ stateAfter refused σ n =
 pub record ReceiverSetUp (σ : Settings) (session : ℕ) (string nodes nodes′ shingles shingles′ cells cells′ : List ℕ) (r : Taken) : Type 0 where
   pub tables : SetUp σ string true nodes nodes′ shingles shingles′ cells cells′ (r .answer)
   pub state-is : r .state ≡ stateAfter (setupRefusal σ string true nodes shingles cells) σ session
-
--- Taking a message: answer, state, shingle table and every byte of the output. "A no at 9 to 11 changes no state and no buffer", nor one at
--- 1 to 7.
-pub record Takes (s : Receiver) (string nodes shingles shingles′ cells message output output′ : List ℕ) (r : Taken) : Type 0 where
-  pub gives : Gives (takeMessage (stateOf s) (lent string nodes shingles cells output) message) string nodes shingles′ cells output′ r
-  pub kept : 0 < r .answer → r .answer < 12 → r .state ≡ s
 
 -- Writing the query: the answer and every byte of the buffer. No output is lent, and none is asked for.
 pub record Asked (s : Receiver) (string nodes shingles cells before after : List ℕ) (r : ℕ) : Type 0 where

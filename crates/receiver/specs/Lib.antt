@@ -1,4 +1,2 @@
--- The receiver's calls, said by the definitions of crate `protocol`, and the steps of taking a message.
-pub mod Heard
-pub mod Steps
+-- Setting a receiver up and writing its query, said by the definitions of crate `protocol`.
 pub mod Calls

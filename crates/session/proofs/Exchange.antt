@@ -10,9 +10,10 @@ use Rattle.protocol.specs.Sender.{reply}
 use Rattle.protocol.specs.Receiver.{takeMessage}
 use Rattle.reply.specs.Reply.{Replied}
 use Rattle.state.specs.declared.Receiver.{Receiver}
+use Rattle.state.specs.declared.Taken.{Taken}
 use Rattle.state.specs.Receivers.{stateOf}
-use Rattle.receiver.specs.declared.Taken.{Taken}
-use Rattle.receiver.specs.Calls.{Takes, Asked}
+use Rattle.taking.specs.Taking.{Takes}
+use Rattle.receiver.specs.Calls.{Asked}
 use Rattle.session.specs.Session.{Standing, standing, after, taken, answered, round}
 use Rattle.session.specs.Calls.{Stands, Exchanged}
 

@@ -9,8 +9,8 @@ use Rattle.tree.specs.declared.Settings.{Settings}
 use Rattle.protocol.specs.Lent.{Lent}
 use Rattle.protocol.specs.State.{State}
 use Rattle.state.specs.declared.Receiver.{Receiver}
+use Rattle.state.specs.declared.Taken.{Taken}
 use Rattle.state.specs.Receivers.{stateOf}
-use Rattle.receiver.specs.declared.Taken.{Taken}
 use Rattle.session.specs.Session.{Standing, standing, round, rounds, endOf}
 use Rattle.session.specs.Calls.{Stands, Exchanged, Ends, ExchangedAll}
 

@@ -11,8 +11,8 @@ use Rattle.setup.proofs.Accepted.{yes-answer, no-answer}
 use Rattle.protocol.specs.Lent.{Lent, lent}
 use Rattle.protocol.specs.State.{initial}
 use Rattle.copying.specs.Copying.{pileOf}
+use Rattle.state.specs.declared.Taken.{Taken}
 use Rattle.state.specs.Receivers.{phaseOf, idle, stateOf}
-use Rattle.receiver.specs.declared.Taken.{Taken}
 use Rattle.receiver.specs.Calls.{stateAfter, ReceiverSetUp}
 use Rattle.session.specs.Session.{standing, rounds, refusedAt, filled, Ending, endOf, sessionBetween}
 use Rattle.session.specs.Calls.{Ends, ExchangedAll, Ran}

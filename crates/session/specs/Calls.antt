@@ -6,8 +6,8 @@ use Prim.Native.Nat.{ℕ}
 use Rattle.tree.specs.declared.Settings.{Settings}
 use Rattle.protocol.specs.Lent.{Lent}
 use Rattle.state.specs.declared.Receiver.{Receiver}
+use Rattle.state.specs.declared.Taken.{Taken}
 use Rattle.state.specs.Receivers.{stateOf}
-use Rattle.receiver.specs.declared.Taken.{Taken}
 use Rattle.session.specs.Session.{Standing, standing, round, rounds, filled, Ending, endOf, sessionBetween}
 
 -- What a round answers and leaves is where the session stands.

@@ -2,8 +2,8 @@
 ghost use mathlib.Core.List.{[]};
 ghost use Rattle.protocol.specs.Lent.{lent};
 ghost use Rattle.session.specs.Calls.{Exchanged, ExchangedAll};
-use receiver::Taken;
 use state::Receiver;
+use state::Taken;
 use tree::Settings;
 
 // One round. What refuses first, the query, the reply or the taking, gives the answer; a query or a reply that is refused leaves the
@@ -52,7 +52,7 @@ pub fn exchange(
         };
     }
     let count = (replied - 4294967296) as usize;
-    receiver::take(
+    taking::take(
         state,
         own,
         own_nodes,

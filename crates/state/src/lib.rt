@@ -32,6 +32,12 @@ pub struct Outstanding {
     pub id: u64,
 }
 
+// What a call answers, and the state after it.
+pub struct Taken {
+    pub answer: u64,
+    pub state: Receiver,
+}
+
 // A state in which nothing is pending: every place is a zero entry.
 fn idle(settings: Settings, session: u64, phase: u64) -> Receiver
     ensures { λ r. ⌜ r ≡ idle settings session phase ⌝ }

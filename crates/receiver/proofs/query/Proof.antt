@@ -1,5 +1,5 @@
 -- Refused by 1 to 7, or the query is written.
-use Rattle.receiver.proofs.Taking.{query-no, query-yes}
+use Rattle.receiver.proofs.Calls.{query-no, query-yes}
 use borrow.Author.Needs.{needs}
 use Rattle.receiver.proofs.query.Statement.{statement}
 use Rattle.receiver.proofs.query.Tie as tie

@@ -1,5 +1,5 @@
 -- Refused, or the state of a new session is made.
-use Rattle.receiver.proofs.Taking.{setup-no, setup-yes}
+use Rattle.receiver.proofs.Calls.{setup-no, setup-yes}
 use borrow.Author.Needs.{needs}
 use Rattle.receiver.proofs.setup.Statement.{statement}
 use Rattle.receiver.proofs.setup.Tie as tie

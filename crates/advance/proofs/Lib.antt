@@ -1,0 +1,2 @@
+-- Laws of what concluding comes to.
+pub mod Advancing

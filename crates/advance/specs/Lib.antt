@@ -1,0 +1,2 @@
+-- How taking a message leaves the session.
+pub mod Advance

@@ -1,0 +1,2 @@
+-- What a message that was read says to a receiver.
+pub mod Heard
