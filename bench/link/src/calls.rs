@@ -1,120 +1,5 @@
 //! The calls of `include/rcds.h`, on slices, and the two ends with the memory that they lend.
 
-mod c {
-    extern "C" {
-        pub fn rcds_sender_setup(
-            w: u64,
-            p: u64,
-            levels: u64,
-            nominal: u64,
-            width: u64,
-            string: *const u8,
-            string_len: usize,
-            nodes: *mut u8,
-            nodes_len: usize,
-            shingles: *mut u8,
-            shingles_len: usize,
-            cells: *mut u8,
-            cells_len: usize,
-            state: *mut u8,
-            state_len: usize,
-        ) -> u64;
-        pub fn rcds_receiver_setup(
-            w: u64,
-            p: u64,
-            levels: u64,
-            nominal: u64,
-            width: u64,
-            session: u64,
-            own: *const u8,
-            own_len: usize,
-            nodes: *mut u8,
-            nodes_len: usize,
-            shingles: *mut u8,
-            shingles_len: usize,
-            cells: *mut u8,
-            cells_len: usize,
-            state: *mut u8,
-            state_len: usize,
-        ) -> u64;
-        pub fn rcds_reply(
-            state: *const u8,
-            state_len: usize,
-            string: *const u8,
-            string_len: usize,
-            nodes: *const u8,
-            nodes_len: usize,
-            shingles: *const u8,
-            shingles_len: usize,
-            cells: *const u8,
-            cells_len: usize,
-            message: *const u8,
-            message_len: usize,
-            out: *mut u8,
-            out_len: usize,
-        ) -> u64;
-        pub fn rcds_query(
-            state: *const u8,
-            state_len: usize,
-            own: *const u8,
-            own_len: usize,
-            nodes: *const u8,
-            nodes_len: usize,
-            shingles: *const u8,
-            shingles_len: usize,
-            cells: *const u8,
-            cells_len: usize,
-            out: *mut u8,
-            out_len: usize,
-        ) -> u64;
-        pub fn rcds_take(
-            state: *mut u8,
-            state_len: usize,
-            own: *const u8,
-            own_len: usize,
-            nodes: *const u8,
-            nodes_len: usize,
-            shingles: *mut u8,
-            shingles_len: usize,
-            cells: *const u8,
-            cells_len: usize,
-            message: *const u8,
-            message_len: usize,
-            output: *mut u8,
-            output_len: usize,
-        ) -> u64;
-        pub fn rcds_sketch_open(
-            levels: u64,
-            width: u64,
-            theirs: *const u8,
-            theirs_len: usize,
-            own: *const u8,
-            own_len: usize,
-            shingles: *mut u8,
-            shingles_len: usize,
-        ) -> u64;
-        pub fn rcds_tree(
-            w: u64,
-            p: u64,
-            levels: u64,
-            nominal: u64,
-            string: *const u8,
-            string_len: usize,
-            nodes: *mut u8,
-            nodes_len: usize,
-        ) -> u64;
-        pub fn rcds_message_type(message: *const u8, message_len: usize) -> u64;
-        pub fn rcds_trail_number(ids: *const u8, ids_len: usize) -> u64;
-        pub fn rcds_trail_order(
-            pairs: *const u8,
-            pairs_len: usize,
-            number: u64,
-            ids: *mut u8,
-            ids_len: usize,
-        ) -> u64;
-    }
-}
-
 /// RCDS_MAX_STRING.
 pub const MAX_STRING: usize = 65_536;
 
@@ -171,7 +56,7 @@ pub fn sender(settings: &Settings, string: &[u8]) -> Result<End, u64> {
     let [w, p, levels, nominal, width] = settings.0;
     let mut end = End::new(string, width, 40);
     answered(unsafe {
-        c::rcds_sender_setup(
+        ::calls::rcds_sender_setup(
             w,
             p,
             levels,
@@ -197,7 +82,7 @@ pub fn receiver(settings: &Settings, session: u64, own: &[u8]) -> Result<End, u6
     let [w, p, levels, nominal, width] = settings.0;
     let mut end = End::new(own, width, 2_144);
     answered(unsafe {
-        c::rcds_receiver_setup(
+        ::calls::rcds_receiver_setup(
             w,
             p,
             levels,
@@ -222,7 +107,7 @@ pub fn receiver(settings: &Settings, session: u64, own: &[u8]) -> Result<End, u6
 /// The sender's reply to a message, its length.
 pub fn reply(end: &End, message: &[u8], out: &mut [u8]) -> Result<usize, u64> {
     answered(unsafe {
-        c::rcds_reply(
+        ::calls::rcds_reply(
             end.state.as_ptr(),
             end.state.len(),
             end.string.as_ptr(),
@@ -244,7 +129,7 @@ pub fn reply(end: &End, message: &[u8], out: &mut [u8]) -> Result<usize, u64> {
 /// The receiver's outstanding query, its length.
 pub fn query(end: &End, out: &mut [u8]) -> Result<usize, u64> {
     answered(unsafe {
-        c::rcds_query(
+        ::calls::rcds_query(
             end.state.as_ptr(),
             end.state.len(),
             end.string.as_ptr(),
@@ -264,7 +149,7 @@ pub fn query(end: &End, out: &mut [u8]) -> Result<usize, u64> {
 /// Takes a message: nothing while the session goes on, else the length of what is handed over.
 pub fn take(end: &mut End, message: &[u8], output: &mut [u8]) -> Result<Option<usize>, u64> {
     let answer = unsafe {
-        c::rcds_take(
+        ::calls::rcds_take(
             end.state.as_mut_ptr(),
             end.state.len(),
             end.string.as_ptr(),
@@ -294,7 +179,7 @@ pub fn sketch_open(
     shingles: &mut [u8],
 ) -> Result<usize, u64> {
     answered(unsafe {
-        c::rcds_sketch_open(
+        ::calls::rcds_sketch_open(
             levels,
             width,
             theirs.as_ptr(),
@@ -311,7 +196,7 @@ pub fn sketch_open(
 pub fn tree(settings: &Settings, string: &[u8], nodes: &mut [u8]) -> Result<usize, u64> {
     let [w, p, levels, nominal, _] = settings.0;
     answered(unsafe {
-        c::rcds_tree(
+        ::calls::rcds_tree(
             w,
             p,
             levels,
@@ -326,18 +211,18 @@ pub fn tree(settings: &Settings, string: &[u8], nodes: &mut [u8]) -> Result<usiz
 
 /// The type of a message.
 pub fn message_type(message: &[u8]) -> Result<usize, u64> {
-    answered(unsafe { c::rcds_message_type(message.as_ptr(), message.len()) })
+    answered(unsafe { ::calls::rcds_message_type(message.as_ptr(), message.len()) })
 }
 
 /// The number of an order.
 pub fn trail_number(ids: &[u8]) -> Result<usize, u64> {
-    answered(unsafe { c::rcds_trail_number(ids.as_ptr(), ids.len()) })
+    answered(unsafe { ::calls::rcds_trail_number(ids.as_ptr(), ids.len()) })
 }
 
 /// The order of a number; how many ids it has.
 pub fn trail_order(pairs: &[u8], number: u64, ids: &mut [u8]) -> Result<usize, u64> {
     answered(unsafe {
-        c::rcds_trail_order(
+        ::calls::rcds_trail_order(
             pairs.as_ptr(),
             pairs.len(),
             number,

@@ -2,23 +2,11 @@
 
 use super::sketches::Asked;
 use crate::pass::{cost, Cost};
+use calls::rcds_sketch_open;
 use reference::cell_table;
 use reference::opening::{difference, takings};
 use reference::shingle_table;
 use std::hint::black_box;
-
-extern "C" {
-    fn rcds_sketch_open(
-        levels: u64,
-        width: u64,
-        theirs: *const u8,
-        theirs_len: usize,
-        own: *const u8,
-        own_len: usize,
-        shingles: *mut u8,
-        shingles_len: usize,
-    ) -> u64;
-}
 
 /// What one opening cost.
 pub struct Row {

@@ -1,93 +1,10 @@
 //! Both ends of a session, on slices.
 
+use calls::{rcds_query, rcds_receiver_setup, rcds_reply, rcds_sender_setup, rcds_take};
 use reference::lent::Lent;
 use reference::receiver_state;
 use reference::sender;
 use reference::settings::Settings;
-
-extern "C" {
-    fn rcds_sender_setup(
-        w: u64,
-        p: u64,
-        levels: u64,
-        nominal: u64,
-        width: u64,
-        string: *const u8,
-        string_len: usize,
-        nodes: *mut u8,
-        nodes_len: usize,
-        shingles: *mut u8,
-        shingles_len: usize,
-        cells: *mut u8,
-        cells_len: usize,
-        state: *mut u8,
-        state_len: usize,
-    ) -> u64;
-    fn rcds_reply(
-        state: *const u8,
-        state_len: usize,
-        string: *const u8,
-        string_len: usize,
-        nodes: *const u8,
-        nodes_len: usize,
-        shingles: *const u8,
-        shingles_len: usize,
-        cells: *const u8,
-        cells_len: usize,
-        message: *const u8,
-        message_len: usize,
-        out: *mut u8,
-        out_len: usize,
-    ) -> u64;
-    fn rcds_receiver_setup(
-        w: u64,
-        p: u64,
-        levels: u64,
-        nominal: u64,
-        width: u64,
-        session: u64,
-        own: *const u8,
-        own_len: usize,
-        nodes: *mut u8,
-        nodes_len: usize,
-        shingles: *mut u8,
-        shingles_len: usize,
-        cells: *mut u8,
-        cells_len: usize,
-        state: *mut u8,
-        state_len: usize,
-    ) -> u64;
-    fn rcds_query(
-        state: *const u8,
-        state_len: usize,
-        own: *const u8,
-        own_len: usize,
-        nodes: *const u8,
-        nodes_len: usize,
-        shingles: *const u8,
-        shingles_len: usize,
-        cells: *const u8,
-        cells_len: usize,
-        out: *mut u8,
-        out_len: usize,
-    ) -> u64;
-    fn rcds_take(
-        state: *mut u8,
-        state_len: usize,
-        own: *const u8,
-        own_len: usize,
-        nodes: *const u8,
-        nodes_len: usize,
-        shingles: *mut u8,
-        shingles_len: usize,
-        cells: *const u8,
-        cells_len: usize,
-        message: *const u8,
-        message_len: usize,
-        output: *mut u8,
-        output_len: usize,
-    ) -> u64;
-}
 
 /// q of all sessions.
 pub const WIDTH: u64 = 64;

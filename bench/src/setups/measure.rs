@@ -1,31 +1,12 @@
 //! Costs of one setup.
 
 use crate::pass::{cost, Cost};
+use calls::rcds_sender_setup;
 use reference::rcds::ACCEPTED;
 use reference::settings::Settings;
 use reference::shingle_table;
 use reference::vectors::string;
 use std::hint::black_box;
-
-extern "C" {
-    fn rcds_sender_setup(
-        w: u64,
-        p: u64,
-        levels: u64,
-        nominal: u64,
-        width: u64,
-        string: *const u8,
-        string_len: usize,
-        nodes: *mut u8,
-        nodes_len: usize,
-        shingles: *mut u8,
-        shingles_len: usize,
-        cells: *mut u8,
-        cells_len: usize,
-        state: *mut u8,
-        state_len: usize,
-    ) -> u64;
-}
 
 /// w, p, L, M, and the string: its content with its kind as `vectors` numbers it, and its length.
 pub type Setup = ([u64; 4], (&'static str, u64), usize);

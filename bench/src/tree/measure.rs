@@ -2,21 +2,9 @@
 
 use crate::clock::seconds;
 use crate::pass::call_and_pass;
+use calls::rcds_tree;
 use reference::settings::Settings;
 use std::hint::black_box;
-
-extern "C" {
-    fn rcds_tree(
-        w: u64,
-        p: u64,
-        levels: u64,
-        nominal: u64,
-        string: *const u8,
-        string_len: usize,
-        nodes: *mut u8,
-        nodes_len: usize,
-    ) -> u64;
-}
 
 /// What one string cost under one setting.
 pub struct Cost {

@@ -74,21 +74,9 @@ const GROUPS: &[Group] = &[
 
 #[cfg(feature = "tree")]
 mod tree {
+    use calls::rcds_tree;
     use conformance::failure::Failure;
     use conformance::tree::{run_all, run_one};
-
-    extern "C" {
-        fn rcds_tree(
-            w: u64,
-            p: u64,
-            levels: u64,
-            nominal: u64,
-            string: *const u8,
-            string_len: usize,
-            nodes: *mut u8,
-            nodes_len: usize,
-        ) -> u64;
-    }
 
     pub fn run(seed: u64, case: Option<usize>) -> Result<Vec<String>, Failure> {
         match case {
@@ -100,19 +88,9 @@ mod tree {
 
 #[cfg(feature = "trails")]
 mod trails {
+    use calls::{rcds_trail_number, rcds_trail_order};
     use conformance::failure::Failure;
     use conformance::trails::{run_all, run_one, Calls};
-
-    extern "C" {
-        fn rcds_trail_number(ids: *const u8, ids_len: usize) -> u64;
-        fn rcds_trail_order(
-            pairs: *const u8,
-            pairs_len: usize,
-            number: u64,
-            ids: *mut u8,
-            ids_len: usize,
-        ) -> u64;
-    }
 
     const CALLS: Calls = Calls {
         number: rcds_trail_number,
@@ -129,12 +107,9 @@ mod trails {
 
 #[cfg(feature = "messages")]
 mod messages {
+    use calls::rcds_message_type;
     use conformance::failure::Failure;
     use conformance::messages::{run_all, run_one};
-
-    extern "C" {
-        fn rcds_message_type(message: *const u8, message_len: usize) -> u64;
-    }
 
     pub fn run(seed: u64, case: Option<usize>) -> Result<Vec<String>, Failure> {
         match case {
@@ -146,28 +121,9 @@ mod messages {
 
 #[cfg(feature = "setups")]
 mod setups {
+    use calls::rcds_sender_setup;
     use conformance::failure::Failure;
     use conformance::setups::{run_all, run_one};
-
-    extern "C" {
-        fn rcds_sender_setup(
-            w: u64,
-            p: u64,
-            levels: u64,
-            nominal: u64,
-            width: u64,
-            string: *const u8,
-            string_len: usize,
-            nodes: *mut u8,
-            nodes_len: usize,
-            shingles: *mut u8,
-            shingles_len: usize,
-            cells: *mut u8,
-            cells_len: usize,
-            state: *mut u8,
-            state_len: usize,
-        ) -> u64;
-    }
 
     pub fn run(seed: u64, case: Option<usize>) -> Result<Vec<String>, Failure> {
         match case {
@@ -179,27 +135,9 @@ mod setups {
 
 #[cfg(feature = "replies")]
 mod replies {
+    use calls::rcds_reply;
     use conformance::failure::Failure;
     use conformance::replies::{run_all, run_one};
-
-    extern "C" {
-        fn rcds_reply(
-            state: *const u8,
-            state_len: usize,
-            string: *const u8,
-            string_len: usize,
-            nodes: *const u8,
-            nodes_len: usize,
-            shingles: *const u8,
-            shingles_len: usize,
-            cells: *const u8,
-            cells_len: usize,
-            message: *const u8,
-            message_len: usize,
-            out: *mut u8,
-            out_len: usize,
-        ) -> u64;
-    }
 
     pub fn run(seed: u64, case: Option<usize>) -> Result<Vec<String>, Failure> {
         match case {
@@ -211,21 +149,9 @@ mod replies {
 
 #[cfg(feature = "openings")]
 mod openings {
+    use calls::rcds_sketch_open;
     use conformance::failure::Failure;
     use conformance::openings::{run_all, run_one};
-
-    extern "C" {
-        fn rcds_sketch_open(
-            levels: u64,
-            width: u64,
-            theirs: *const u8,
-            theirs_len: usize,
-            own: *const u8,
-            own_len: usize,
-            shingles: *mut u8,
-            shingles_len: usize,
-        ) -> u64;
-    }
 
     pub fn run(seed: u64, case: Option<usize>) -> Result<Vec<String>, Failure> {
         match case {
@@ -237,92 +163,9 @@ mod openings {
 
 #[cfg(feature = "sessions")]
 mod sessions {
+    use calls::{rcds_query, rcds_receiver_setup, rcds_reply, rcds_sender_setup, rcds_take};
     use conformance::failure::Failure;
     use conformance::sessions::{run_all, run_one, Calls};
-
-    extern "C" {
-        fn rcds_sender_setup(
-            w: u64,
-            p: u64,
-            levels: u64,
-            nominal: u64,
-            width: u64,
-            string: *const u8,
-            string_len: usize,
-            nodes: *mut u8,
-            nodes_len: usize,
-            shingles: *mut u8,
-            shingles_len: usize,
-            cells: *mut u8,
-            cells_len: usize,
-            state: *mut u8,
-            state_len: usize,
-        ) -> u64;
-        fn rcds_reply(
-            state: *const u8,
-            state_len: usize,
-            string: *const u8,
-            string_len: usize,
-            nodes: *const u8,
-            nodes_len: usize,
-            shingles: *const u8,
-            shingles_len: usize,
-            cells: *const u8,
-            cells_len: usize,
-            message: *const u8,
-            message_len: usize,
-            out: *mut u8,
-            out_len: usize,
-        ) -> u64;
-        fn rcds_receiver_setup(
-            w: u64,
-            p: u64,
-            levels: u64,
-            nominal: u64,
-            width: u64,
-            session: u64,
-            own: *const u8,
-            own_len: usize,
-            nodes: *mut u8,
-            nodes_len: usize,
-            shingles: *mut u8,
-            shingles_len: usize,
-            cells: *mut u8,
-            cells_len: usize,
-            state: *mut u8,
-            state_len: usize,
-        ) -> u64;
-        fn rcds_query(
-            state: *const u8,
-            state_len: usize,
-            own: *const u8,
-            own_len: usize,
-            nodes: *const u8,
-            nodes_len: usize,
-            shingles: *const u8,
-            shingles_len: usize,
-            cells: *const u8,
-            cells_len: usize,
-            out: *mut u8,
-            out_len: usize,
-        ) -> u64;
-        fn rcds_take(
-            state: *mut u8,
-            state_len: usize,
-            own: *const u8,
-            own_len: usize,
-            nodes: *const u8,
-            nodes_len: usize,
-            shingles: *mut u8,
-            shingles_len: usize,
-            cells: *const u8,
-            cells_len: usize,
-            message: *const u8,
-            message_len: usize,
-            output: *mut u8,
-            output_len: usize,
-        ) -> u64;
-    }
 
     const CALLS: Calls = Calls {
         sender_setup: rcds_sender_setup,
