@@ -4,6 +4,7 @@ use super::multisets::{trails, Asked};
 use crate::clock::seconds;
 use crate::pass::{cost, Cost};
 use reference::rcds::ACCEPTED;
+use reference::trail::{pairs, MOST_NUMBER};
 use std::hint::black_box;
 
 extern "C" {
@@ -25,8 +26,8 @@ pub struct Row {
     pub trails: u128,
     pub number: u64,
     pub answer: u64,
-    /// Of the number's order.
-    pub order: Cost,
+    /// Of the number's order, unless the number is above 4,095.
+    pub order: Option<Cost>,
     /// Of the order's number, where there is one.
     pub back: Option<Cost>,
 }
@@ -36,14 +37,10 @@ pub fn bytes<'a>(rows: impl IntoIterator<Item = &'a u64>) -> Vec<u8> {
     rows.into_iter().flat_map(|row| row.to_be_bytes()).collect()
 }
 
-/// One call, and that its answer is the reference's: the answer, the ids, and the seconds that it
-/// took.
-pub fn order(pairs: &[u8], number: u64) -> (u64, Vec<u8>, f64) {
+/// One call, and that its answer is the reference's: the answer and the ids.
+fn order(pairs: &[u8], number: u64) -> (u64, Vec<u8>) {
     let mut ids = vec![0; 256];
-    let mut answer = 0;
-    let time = seconds(1, || {
-        answer = black_box(call_order(black_box(pairs), number, &mut ids));
-    });
+    let answer = call_order(pairs, number, &mut ids);
     let mut expected = vec![0; 256];
     let expected_answer = reference::rcds::rcds_trail_order(pairs, number, &mut expected);
     assert!(
@@ -51,7 +48,7 @@ pub fn order(pairs: &[u8], number: u64) -> (u64, Vec<u8>, f64) {
         "a wrong order"
     );
     ids.truncate(8 * answer.saturating_sub(ACCEPTED) as usize);
-    (answer, ids, time)
+    (answer, ids)
 }
 
 /// The call on slices.
@@ -72,6 +69,21 @@ fn call_order(pairs: &[u8], number: u64, ids: &mut [u8]) -> u64 {
 fn call_number(ids: &[u8]) -> u64 {
     // The slice is there in full.
     unsafe { rcds_trail_number(ids.as_ptr(), ids.len()) }
+}
+
+/// The seconds of one order of a number.
+pub fn order_time(pairs: &[u8], number: u64) -> f64 {
+    let mut ids = vec![0; 256];
+    seconds(1, || {
+        black_box(call_order(black_box(pairs), number, &mut ids));
+    })
+}
+
+/// The seconds of one number of an order.
+pub fn number_time(ids: &[u8]) -> f64 {
+    seconds(1, || {
+        black_box(call_number(black_box(ids)));
+    })
 }
 
 /// The cost of the order of a number.
@@ -95,14 +107,31 @@ pub fn number_cost(ids: &[u8]) -> (u64, Cost) {
 /// Measures one multiset, and the way back from its order.
 pub fn row(asked: &Asked) -> Row {
     let pairs = bytes(asked.entries.iter().flatten());
-    let (answer, ids, _) = order(&pairs, asked.number);
+    let (answer, ids) = order(&pairs, asked.number);
     Row {
         name: asked.name.clone(),
         ids: asked.entries.iter().map(|entry| entry[2]).sum(),
         trails: trails(&asked.entries),
         number: asked.number,
         answer,
-        order: order_cost(&pairs, asked.number),
+        order: Some(order_cost(&pairs, asked.number)),
         back: (answer >= ACCEPTED).then(|| number_cost(&ids).1),
+    }
+}
+
+/// Measures the number of an order, and the way back from it where there is one.
+pub fn number_row(name: &str, order: &[u64]) -> Row {
+    let (answer, cost) = number_cost(&bytes(order));
+    let number = answer - ACCEPTED;
+    let entries: Vec<[u64; 3]> = pairs(order).iter().map(|&(a, b)| [a, b, 1]).collect();
+    let table = bytes(entries.iter().flatten());
+    Row {
+        name: name.to_string(),
+        ids: order.len() as u64,
+        trails: trails(&entries),
+        number,
+        answer: ACCEPTED + order.len() as u64,
+        order: (number <= MOST_NUMBER).then(|| order_cost(&table, number)),
+        back: Some(cost),
     }
 }

@@ -18,14 +18,15 @@ pub fn print(rows: &[Row]) {
             Some(ids) => format!("{ids} ids"),
             None => format!("refused by {}", row.answer),
         };
-        let back = row.back.as_ref().map_or("| ".to_string(), cells);
+        let of = |cost: &Option<Cost>| cost.as_ref().map_or("| ".to_string(), cells);
         println!(
-            "| {} | {} | {} | {} | {answer} | {} | {back} |",
+            "| {} | {} | {} | {} | {answer} | {} | {} |",
             row.name,
             row.ids,
             row.trails,
             row.number,
-            cells(&row.order),
+            of(&row.order),
+            of(&row.back),
         );
     }
     println!();
@@ -66,7 +67,9 @@ pub fn print_typical(rows: &[Typical]) {
 
 /// The slowest calls, in a sentence each.
 pub fn print_slowest(rows: &[Row]) {
-    let orders = rows.iter().map(|row| (&row.order, row));
+    let orders = rows
+        .iter()
+        .filter_map(|row| Some((row.order.as_ref()?, row)));
     let numbers = rows
         .iter()
         .filter_map(|row| Some((row.back.as_ref()?, row)));
