@@ -15,6 +15,7 @@ pub fn print(rows: &[Row]) {
     println!("|---|---:|---:|---:|---:|---:|---:|---:|---:|");
     for row in rows {
         let answer = match row.answer.checked_sub(ACCEPTED) {
+            Some(_) if row.order.is_none() => "not asked".to_string(),
             Some(ids) => format!("{ids} ids"),
             None => format!("refused by {}", row.answer),
         };
