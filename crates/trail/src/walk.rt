@@ -140,7 +140,8 @@ fn several(known: bool, row: usize) -> bool {
 // The search goes on from v, k pairs being unused, over trails whose first id is at most top.
 // Where v was one of several ids to go on to (`fork`), it turns back if an unused pair is out of reach. Over pairs in balance,
 // as those of `find` and of an order are, a trail then goes on from v. From the only id to go on to it does so anyway: a
-// test there would find nothing. Where `top` alone makes it the only one, a branch without a trail ends at the next fork.
+// test there would find nothing. So no branch is walked in vain. Where top is not the greatest id, an id above it is another
+// to go on to: the order's own.
 pub fn search(
     previous: &[u64],
     own: &[u64],
@@ -167,7 +168,7 @@ pub fn search(
         }
     }
     let mut left = skip;
-    let mut many = false;
+    let mut many = top < LAST;
     let mut i = least(previous, own, after, &counts, v, from, 0, top);
     while i < 32 {
         let x = own[i];
