@@ -3,20 +3,10 @@
 use super::multisets::{trails, Asked};
 use crate::clock::seconds;
 use crate::pass::{cost, Cost};
+use calls::{rcds_trail_number, rcds_trail_order};
 use reference::rcds::ACCEPTED;
 use reference::trail::{pairs, MOST_NUMBER};
 use std::hint::black_box;
-
-extern "C" {
-    fn rcds_trail_number(ids: *const u8, ids_len: usize) -> u64;
-    fn rcds_trail_order(
-        pairs: *const u8,
-        pairs_len: usize,
-        number: u64,
-        ids: *mut u8,
-        ids_len: usize,
-    ) -> u64;
-}
 
 /// What one multiset cost.
 pub struct Row {
