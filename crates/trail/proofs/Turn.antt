@@ -138,15 +138,16 @@ module _ (ps os ns cs rest : List ℕ) (top last v k skip left low r : ℕ) (a :
   more : suc (k - 1) ≡ k
   more = omega arith
 
-  pub found-answer : (found : Bool) (left′ left″ : ℕ) (rows : List ℕ) → length rows ≡ 32 → found ≡ true →
+  pub found-answer : (found found″ : Bool) (left′ left″ : ℕ) (rows rows″ : List ℕ) → length rows ≡ 32 → found ≡ true →
       Answer (trailsUpTo last (k - 1) (rising os) (getD os r 0) (pairsOf ps os rest)) (k - 1) left found left′ (led os rows) →
-      Answer (trailsUpTo top k (rising os) v (pairsOf ps os cs)) k skip true left″ (led os (set rows (32 - k) r))
-  found-answer found left′ left″ rows l f b =
+      (found″ ≡ true) × (rows″ ≡ set rows (32 - k) r) → Answer (trailsUpTo top k (rising os) v (pairsOf ps os cs)) k skip found″ left″ (led os rows″)
+  found-answer found found″ left′ left″ rows rows″ l f b g =
       let few = a .few in
-      subst (λ (places : List ℕ). Answer (trailsUpTo top k (rising os) v (pairsOf ps os cs)) k skip true left″ places) (led-set os rows (32 - k) r)
+      rw (g .0, g .1)
+      (subst (λ (places : List ℕ). Answer (trailsUpTo top k (rising os) v (pairsOf ps os cs)) k skip true left″ places) (led-set os rows (32 - k) r)
       (o .so true left″ (set (led os rows) (32 - k) (getD os r 0))
       (rw parts (subst (λ (n : ℕ). Answer (map (λ (xs : List ℕ). getD os r 0 ∷ xs) (trailsUpTo last (k - 1) (rising os) (getD os r 0) (pairsOf ps os rest)) ++ trailsWithin (getD os r 0 + 1) top (k - 1) (rising os) v (pairsOf ps os cs)) n left true left″ (set (led os rows) (32 - n) (getD os r 0))) more
-      (branch-found (getD os r 0) (k - 1) left left′ left″ _ _ (led os rows) (led-long os rows ∙ l) (omega arith) (rw f at b)))))
+      (branch-found (getD os r 0) (k - 1) left left′ left″ _ _ (led os rows) (led-long os rows ∙ l) (omega arith) (rw f at b))))))
 
   pub past-onward : (found : Bool) (left′ : ℕ) (places : List ℕ) → found ≡ false →
       Answer (trailsUpTo last (k - 1) (rising os) (getD os r 0) (pairsOf ps os rest)) (k - 1) left found left′ places →

@@ -7,7 +7,7 @@ use crate::reach::lost;
 use crate::table::balanced;
 use crate::table::narrow;
 ghost use mathlib.Core.Path.{_≡_};
-ghost use mathlib.Core.Bool.{false};
+ghost use mathlib.Core.Bool.{true, false};
 ghost use mathlib.Core.List.{List, [], _∷_, _++_};
 ghost use Prim.Native.Nat.{ℕ, _<_, _≤_, _+_, _-_};
 ghost use lib.ListN.{getD, set, drop, replicate};
@@ -129,6 +129,20 @@ fn complete(skip: u64) -> Outcome
     missing(skip - 1)
 }
 
+// The trail that was found, and before it row i, k pairs from the end.
+fn longer(rows: [u8; 32], i: usize, k: usize) -> Outcome
+    requires { ⌜ (i < 32) × (0 < k) × (k ≤ 32) ⌝ }
+    ensures { λ r. ⌜ (r .found ≡ true) × (r .rows ≡ set rows (32 - k) i) ⌝ }
+{
+    let mut rows = rows;
+    rows[32 - k] = i as u8;
+    Outcome {
+        found: true,
+        left: 0,
+        rows,
+    }
+}
+
 // Whether there are several ids to go on to: it is known already, or another row leads on.
 fn several(known: bool, row: usize) -> bool {
     if known {
@@ -191,13 +205,8 @@ pub fn search(
             many,
         );
         if below.found {
-            let mut rows = below.rows;
-            rows[32 - k] = i as u8;
-            return Outcome {
-                found: true,
-                left: 0,
-                rows,
-            };
+            let rows = below.rows;
+            return longer(rows, i, k);
         }
         left = below.left;
         i = then;

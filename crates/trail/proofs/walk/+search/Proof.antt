@@ -14,6 +14,7 @@ use Rattle.trail.proofs.reach.lost.Reads as lost-reads
 use Rattle.trail.proofs.walk.above.Reads as above-reads
 use Rattle.trail.proofs.walk.complete.Reads as complete-reads
 use Rattle.trail.proofs.walk.least.Reads as least-reads
+use Rattle.trail.proofs.walk.longer.Reads as longer-reads
 use Rattle.trail.proofs.walk.missing.Reads as missing-reads
 use Rattle.trail.proofs.walk.several.Reads as several-reads
 use Rattle.trail.proofs.walk.spend.Reads as spend-reads
@@ -28,7 +29,7 @@ at t = and 5 search-kinds.ps (is 5 search-kinds.ps μ-search t) search′.Pre
 
 -- What the callees ask and give, the search itself below the measure t.
 abbrev claims : ℕ → search-lts.Claims
-claims t = (complete-reads.Asked, complete-reads.Learnt, lost-reads.Asked, lost-reads.Learnt, missing-reads.Asked, missing-reads.Learnt, least-reads.Asked, least-reads.Learnt, above-reads.Asked, above-reads.Learnt, several-reads.Asked, several-reads.Learnt, spend-reads.Asked, spend-reads.Learnt, and 5 search-kinds.ps (falls 5 search-kinds.ps _<_ μ-search t) search′.Pre, search′.Post)
+claims t = (complete-reads.Asked, complete-reads.Learnt, lost-reads.Asked, lost-reads.Learnt, missing-reads.Asked, missing-reads.Learnt, least-reads.Asked, least-reads.Learnt, above-reads.Asked, above-reads.Learnt, several-reads.Asked, several-reads.Learnt, spend-reads.Asked, spend-reads.Learnt, and 5 search-kinds.ps (falls 5 search-kinds.ps _<_ μ-search t) search′.Pre, search′.Post, longer-reads.Asked, longer-reads.Learnt)
 
 abbrev Inv-loop : search-lts.InvT-loop
 Inv-loop previous own next first after v from top k skip fork counts left₀ many₀ i₀ left many i = Turning previous own counts top k v skip left i
@@ -93,17 +94,11 @@ search-sub-search t c = omega (arith, c .before .before .before .before .before 
 search-search-requires : (t : ℕ) → search-lts.Need-search-requires (claims t) (at t) search′.Post Inv-loop μ-loop
 search-search-requires t c κs = (omega (arith, c .before .before .before .before .before .before .before .before .before .before .before .before .before .before .before .before .before .pre .0, c .before .before .before .before .before .before .before .before .before .before .before .if1 .left), (ready-spent _ _ _ _ _ _ _ (c .before .before .before .before .before .before .before .before .before .before .before .before .before .before .before .before .before .pre .1 .0) (c .before .before .before .before .before .before .loop-test .taken) (c .before .before .before .before .before .before .before .loop .inv .least .row (c .before .before .before .before .before .before .loop-test .taken) .unused) (c .before .spend .ensures), c .before .before .before .before .before .before .before .before .before .before .before .before .before .before .before .before .before .pre .1 .1, c .before .before .before .before .before .before .before .before .before .before .before .before .before .before .before .before .before .pre .1 .1 .first .each _ (c .before .before .before .before .before .before .loop-test .taken)))
 
-search-cast-rows : (t : ℕ) → search-lts.Need-cast-rows (claims t) (at t) search′.Post Inv-loop μ-loop
-search-cast-rows t c = omega (arith, c .before .before .before .before .before .before .before .before .before .loop-test .taken)
-
-search-sub-rows : (t : ℕ) → search-lts.Need-sub-rows (claims t) (at t) search′.Post Inv-loop μ-loop
-search-sub-rows t c = omega (arith, c .before .before .before .before .before .before .before .before .before .before .before .before .before .before .before .before .before .before .before .before .pre .1 .0 .few)
-
-search-array-write-rows : (t : ℕ) → search-lts.Need-array-write-rows (claims t) (at t) search′.Post Inv-loop μ-loop
-search-array-write-rows t c = omega (arith, c .before .before .before .before .before .before .before .before .before .before .before .before .before .before .if1 .left)
+search-longer-requires : (t : ℕ) → search-lts.Need-longer-requires (claims t) (at t) search′.Post Inv-loop μ-loop
+search-longer-requires t c κs = (c .before .before .before .before .before .before .before .before .before .loop-test .taken, omega (arith, c .before .before .before .before .before .before .before .before .before .before .before .before .before .before .if1 .left), c .before .before .before .before .before .before .before .before .before .before .before .before .before .before .before .before .before .before .before .before .pre .1 .0 .few)
 
 search-returns-3 : (t : ℕ) → search-lts.Need-returns-3 (claims t) (at t) search′.Post Inv-loop μ-loop
-search-returns-3 t c = found-answer _ _ _ _ _ _ 18446744073709551615 _ _ _ _ _ _ (c .before .before .before .before .before .before .before .before .before .before .before .before .before .before .before .before .before .before .before .before .pre .1 .0) (c .before .before .before .before .before .before .before .before .before .before .before .before .before .before .if1 .left) (c .before .before .before .before .before .before .before .before .before .before .loop .inv .onward) (c .before .before .before .before .before .before .before .before .before .before .loop .inv .least) (c .before .before .before .before .before .before .before .before .before .loop-test .taken) (c .before .before .before .before .spend .ensures) (λ i. omega (arith, c .before .before .before .before .before .before .before .before .before .before .before .before .before .before .before .before .before .before .shared-slice-known2 .given i)) _ _ _ _ (search needs) (c .before .if4 .taken) (c .before .before .search .ensures)
+search-returns-3 t c = found-answer _ _ _ _ _ _ 18446744073709551615 _ _ _ _ _ _ (c .before .before .before .before .before .before .before .before .before .before .before .before .before .before .before .before .before .before .before .before .before .pre .1 .0) (c .before .before .before .before .before .before .before .before .before .before .before .before .before .before .before .if1 .left) (c .before .before .before .before .before .before .before .before .before .before .before .loop .inv .onward) (c .before .before .before .before .before .before .before .before .before .before .before .loop .inv .least) (c .before .before .before .before .before .before .before .before .before .before .loop-test .taken) (c .before .before .before .before .before .spend .ensures) (λ i. omega (arith, c .before .before .before .before .before .before .before .before .before .before .before .before .before .before .before .before .before .before .before .shared-slice-known2 .given i)) _ _ _ _ _ _ (search needs) (c .before .before .if4 .taken) (c .before .before .before .search .ensures) (c .longer .ensures)
 
 search-loop-less : (t : ℕ) → search-lts.Need-loop-less (claims t) (at t) search′.Post Inv-loop μ-loop
 search-loop-less t c = room-less _ _ _ _ _ _ _ (c .before .before .before .before .before .before .before .before .loop-test .taken) (c .before .before .before .before .before .before .before .before .before .loop .inv .least .row (c .before .before .before .before .before .before .before .before .loop-test .taken) .below) (c .before .before .before .before .before .above .ensures)
@@ -138,9 +133,7 @@ pub +search-spec : {M : Type 1} → statement M
     (search-shared-slice-read-start t)
     (search-sub-search t)
     (search-search-requires t)
-    (search-cast-rows t)
-    (search-sub-rows t)
-    (search-array-write-rows t)
+    (search-longer-requires t)
     (search-returns-3 t)
     (search-loop-less t)
     (search-loop-again t)
