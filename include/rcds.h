@@ -313,7 +313,7 @@ uint64_t rcds_trail_number(const uint8_t *ids, size_t ids_len);
  * Refused: ids is unchanged.
  *
  * The call ends for every content of pairs. How long it takes was measured and
- * is not proved: at most 33 ms for the slowest multisets found.
+ * is not proved: at most 10 ms for the slowest multisets found.
  */
 uint64_t rcds_trail_order(const uint8_t *pairs, size_t pairs_len,
                           uint64_t number, uint8_t *ids, size_t ids_len);
