@@ -1,4 +1,4 @@
-//! What `rcds_tree` costs: a table in markdown, and the worst figures in three sentences.
+//! What `rcds_tree` costs: a table in markdown, and the worst figures in sentences.
 //!
 //! A cost is counted in plain FNV-1a passes over the same bytes. All figures are ratios of such
 //! costs.

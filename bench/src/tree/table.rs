@@ -149,18 +149,43 @@ fn longest(row: &Row) -> Vec<Figure> {
     row.costs.iter().zip(CONTENTS).map(figure).collect()
 }
 
-/// The three sentences.
-pub fn print_worst(rows: &[Row]) {
+/// How much longer the dearest setting of each length takes than that of a quarter of the length, over
+/// one content.
+fn growth_of_dearest(rows: &[Row], content: usize) -> Vec<Figure> {
+    let dearest = |size: usize| {
+        let figure = |row: &Row| (row.costs[content][size].passes, name(&row.settings));
+        worst(rows.iter().map(figure))
+    };
+    let figure = |size: usize| {
+        let ((shorter, _), (longer, setting)) = (dearest(size - 1), dearest(size));
+        let place = format!("{}, {} KiB, {setting}", CONTENTS[content].0, SIZES[size]);
+        (times(longer, shorter), place)
+    };
+    (1..SIZES.len()).map(figure).collect()
+}
+
+/// How the time grows: of the dearest settings, and with the same settings.
+fn print_growth(rows: &[Row]) {
+    let contents = 0..CONTENTS.len();
+    let (most, place) = worst(contents.flat_map(|content| growth_of_dearest(rows, content)));
+    println!(
+        "Four times the bytes cost at most {most:.1} times the time, each length at its dearest setting ({place})."
+    );
     let (most, place) = worst(
         rows.iter()
             .flat_map(|row| growth(row, positions_grow_with_it)),
     );
     let (any, any_place) = worst(rows.iter().flat_map(|row| growth(row, |_, _| true)));
     println!(
-        "Four times the bytes cost at most {most:.1} times the time with the same settings, where they have \
-         at most five times the positions that can be candidates at level 1 ({place}). Where they have more, \
-         or the shorter string has none, at most {any:.1} times ({any_place})."
+        "With the same settings they cost at most {most:.1} times the time where they have at most five times \
+         the positions that can be candidates at level 1 ({place}). Where they have more, or the shorter string \
+         has none, at most {any:.1} times ({any_place})."
     );
+}
+
+/// The worst figures, in sentences.
+pub fn print_worst(rows: &[Row]) {
+    print_growth(rows);
     let (most, place) = worst(rows.iter().flat_map(zeros_to_random));
     println!("Zeros cost at most {most:.1} times random bytes ({place}).");
     let four = rows.iter().filter(|row| row.settings.levels == 4);

@@ -8,7 +8,7 @@ use native.Mathlib.Omega.{arith}
 use lib.Dec.{eqb}
 use lib.ListN.{length, take, drop}
 use borrow.Author.Tests.{eq-eqb, ne-eqb, le-leb, lt-leb}
-use Rattle.tree.specs.Table.{idAt, startAt, sizeAt}
+use Rattle.node_table.specs.Entries.{idAt, startAt, sizeAt}
 use Rattle.copying.specs.Copying.{Finds}
 use Rattle.protocol.specs.Nodes.{entryAt, inside, entriesFrom, entriesIn, blockIn, fromFirst, firstBlock, look}
 

@@ -10,7 +10,7 @@ pub fn first_with(string: &[u8], nodes: &[u8], id: u64) -> Place
     let room = string.len();
     let mut k = 0;
     while k < n {
-        let here = tree::node_id(nodes, k);
+        let here = node_table::node_id(nodes, k);
         if here == 0 {
             return Place {
                 there: false,
@@ -18,8 +18,8 @@ pub fn first_with(string: &[u8], nodes: &[u8], id: u64) -> Place
                 size: 0,
             };
         }
-        let start = tree::node_start(nodes, k) as usize;
-        let size = tree::node_length(nodes, k) as usize;
+        let start = node_table::node_start(nodes, k) as usize;
+        let size = node_table::node_length(nodes, k) as usize;
         if here != id {
             k += 1;
         } else if start + size > room {

@@ -26,7 +26,7 @@ use Rattle.state.specs.declared.Receiver.{Receiver}
 use Rattle.state.specs.declared.Taken.{Taken}
 use Rattle.copying.specs.Copying.{pileOf}
 use Rattle.state.specs.Receivers.{phaseOf, idle, stateOf}
-use Rattle.state.specs.Bytes.{stateIn, stateRows, Stores}
+use Rattle.state_bytes.specs.Bytes.{stateIn, stateRows, Stores}
 use Rattle.taking.specs.Taking.{Takes}
 use Rattle.receiver.specs.Calls.{stateAfter, ReceiverSetUp, Asked}
 use Rattle.held.specs.Held.{decode, bytesAfter, HeldSetUp, HeldTakes}

@@ -13,7 +13,7 @@ use Rattle.protocol.specs.Lent.{lent}
 use Rattle.protocol.specs.State.{State, initial}
 use Rattle.protocol.specs.Receiver.{Result, numberOf, takeMessage}
 use Rattle.state.specs.Receivers.{idle, stateOf}
-use Rattle.state.specs.Bytes.{stateIn, stateRows}
+use Rattle.state_bytes.specs.Bytes.{stateIn, stateRows}
 
 -- The state that bytes hold: every call's promise goes through it.
 abbrev pub decode : List ℕ → State

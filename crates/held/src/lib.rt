@@ -2,7 +2,7 @@
 ghost use mathlib.Core.Bool.{_&&_};
 ghost use mathlib.Core.Path.{_≡_};
 ghost use lib.Dec.{ltb};
-ghost use Rattle.state.specs.Bytes.{stateIn};
+ghost use Rattle.state_bytes.specs.Bytes.{stateIn};
 ghost use Rattle.receiver.specs.Calls.{Asked};
 ghost use Rattle.held.specs.Held.{HeldSetUp, HeldTakes};
 use tree::Settings;
@@ -34,7 +34,7 @@ pub fn setup(
     if answer < 4294967296 {
         return answer;
     }
-    state::bytes::store(state, made.state);
+    state_bytes::store(state, made.state);
     answer
 }
 
@@ -62,13 +62,13 @@ pub fn take(
     ensures { λ r. ⌜ HeldTakes (now (state .entry)) (now (state .exit)) (now (string .entry)) (now (nodes .entry)) (now (shingles .entry))
         (now (shingles .exit)) (now (cells .entry)) (now (message .entry)) (now (output .entry)) (now (output .exit)) r ⌝ }
 {
-    let before = state::bytes::load(state);
+    let before = state_bytes::load(state);
     let taken = taking::take(before, string, nodes, shingles, cells, message, output);
     let answer = taken.answer;
     if refuses(answer) {
         return answer;
     }
-    state::bytes::store(state, taken.state);
+    state_bytes::store(state, taken.state);
     answer
 }
 
@@ -84,6 +84,6 @@ pub fn query(
     ensures { λ r. ⌜ Asked (stateIn (now (state .entry))) (now (string .entry)) (now (nodes .entry)) (now (shingles .entry))
         (now (cells .entry)) (now (buffer .entry)) (now (buffer .exit)) r ⌝ }
 {
-    let held = state::bytes::load(state);
+    let held = state_bytes::load(state);
     receiver::query(held, string, nodes, shingles, cells, buffer)
 }

@@ -19,7 +19,8 @@ use Rattle.tree.specs.declared.Settings.{Settings}
 use Rattle.tree.specs.Questions.{refusal}
 use Rattle.tree.specs.Tree.{Node, node, nodesOf}
 use Rattle.tree.specs.Laws.{Content, content}
-use Rattle.tree.specs.Table.{idAt, sizeAt, treeRefusal, treeTable}
+use Rattle.node_table.specs.Entries.{idAt, sizeAt}
+use Rattle.tree.specs.Table.{treeRefusal, treeTable}
 use Rattle.tree.proofs.Questions.{granted}
 use Rattle.tree.proofs.Tree.{each-at, nodes-within}
 use Rattle.tree.proofs.Listed.{node-listed, none-listed}

@@ -16,7 +16,8 @@ use Rattle.fnv.proofs.Fnv.{block-id-nonzero}
 use Rattle.tree.specs.declared.Settings.{Settings}
 use Rattle.tree.specs.Tree.{Node, node, childrenOf, inTurn, treeOf, nodesOf}
 use Rattle.tree.specs.Laws.{content, Each, none as none-within, both as both-within, Within}
-use Rattle.tree.specs.Table.{idAt, treeRefusal, treeTable}
+use Rattle.node_table.specs.Entries.{idAt}
+use Rattle.tree.specs.Table.{treeRefusal, treeTable}
 use Rattle.tree.proofs.Tree.{nodes-within}
 use Rattle.tree.proofs.Listed.{node-listed, none-listed}
 use Rattle.shingle.specs.declared.Shingle.{Shingle}

@@ -6,7 +6,7 @@ use mathlib.Core.Option.{Option, none, some}
 use Prim.Native.Nat.{ℕ, zero, suc, _+_, _/_}
 use lib.Dec.{leb, eqb}
 use lib.ListN.{length, take, drop}
-use Rattle.tree.specs.Table.{idAt, levelAt, startAt, sizeAt}
+use Rattle.node_table.specs.Entries.{idAt, levelAt, startAt, sizeAt}
 
 -- What an entry of the node table says.
 pub record Entry : Type 0 where

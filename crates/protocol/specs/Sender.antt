@@ -7,7 +7,7 @@ use Prim.Native.Nat.{ℕ, zero, suc, _+_, _^_}
 use lib.Dec.{leb, ltb, eqb}
 use lib.ListN.{length, drop}
 use Rattle.tree.specs.declared.Settings.{Settings}
-use Rattle.tree.specs.Table.{idAt}
+use Rattle.node_table.specs.Entries.{idAt}
 use Rattle.shingle.specs.declared.Shingle.{Shingle}
 use Rattle.shingle.specs.Shingles.{pairOf}
 use Rattle.shingle.specs.Rising.{howMany}

@@ -6,7 +6,7 @@ ghost use Rattle.message.specs.Messages.{parse};
 ghost use Rattle.message.specs.Reading.{typeAnswer};
 ghost use Rattle.reply.specs.Reply.{Replied};
 ghost use Rattle.sender.specs.State.{settingsIn, SenderSetUp};
-ghost use Rattle.state.specs.Bytes.{stateIn};
+ghost use Rattle.state_bytes.specs.Bytes.{stateIn};
 ghost use Rattle.receiver.specs.Calls.{Asked};
 ghost use Rattle.held.specs.Held.{HeldSetUp, HeldTakes};
 ghost use Rattle.opening.specs.Opened.{Opened};

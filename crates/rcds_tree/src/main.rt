@@ -5,11 +5,11 @@ use libc::STDOUT_FILENO;
 use tree::Settings;
 
 fn print_node(nodes: &[u8], k: usize) {
-    io::print_decimal(STDOUT_FILENO, tree::node_level(nodes, k));
+    io::print_decimal(STDOUT_FILENO, node_table::node_level(nodes, k));
     io::write_all(STDOUT_FILENO, b" ");
-    io::print_decimal(STDOUT_FILENO, tree::node_start(nodes, k));
+    io::print_decimal(STDOUT_FILENO, node_table::node_start(nodes, k));
     io::write_all(STDOUT_FILENO, b" ");
-    io::print_decimal(STDOUT_FILENO, tree::node_length(nodes, k));
+    io::print_decimal(STDOUT_FILENO, node_table::node_length(nodes, k));
     io::write_all(STDOUT_FILENO, b"\n");
 }
 
@@ -17,7 +17,7 @@ fn print_node(nodes: &[u8], k: usize) {
 fn print_nodes(nodes: &[u8]) {
     let mut k = 0;
     while k < 4096 {
-        if tree::node_id(nodes, k) == 0 {
+        if node_table::node_id(nodes, k) == 0 {
             return;
         }
         print_node(nodes, k);

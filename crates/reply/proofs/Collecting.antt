@@ -9,7 +9,7 @@ use borrow.Author.Tests.{eq-eqb, ne-eqb, le-leb, lt-leb}
 use lib.Dec.{eqb, leb}
 use lib.ListN.{length, take, set, replicate, length-set, length-append, length-replicate}
 use lib.Seq.{take-suc-set, append-snoc, length-take-le}
-use Rattle.tree.specs.Table.{idAt, levelAt}
+use Rattle.node_table.specs.Entries.{idAt, levelAt}
 use Rattle.protocol.specs.Nodes.{Entry, entryAt, inside, entriesFrom}
 use Rattle.protocol.specs.Sender.{childIds}
 use Rattle.reply.specs.Parts.{roleAt, Collected}

@@ -11,7 +11,7 @@ use lib.Dec.{leb}
 use lib.ListN.{length, getD, take, drop}
 use Rattle.rows.specs.Rows.{wordsOf}
 use Rattle.tree.specs.declared.Settings.{Settings}
-use Rattle.tree.specs.Table.{idAt, startAt, sizeAt}
+use Rattle.node_table.specs.Entries.{idAt, startAt, sizeAt}
 use Rattle.shingle.specs.Table.{shinglesIn}
 use Rattle.sketch.specs.Sums.{along}
 use Rattle.single.specs.Peeling.{rowsIn}

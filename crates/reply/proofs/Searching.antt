@@ -8,7 +8,7 @@ use native.Mathlib.Omega.{arith}
 use borrow.Author.Tests.{eq-eqb, ne-eqb}
 use lib.Dec.{eqb, leb}
 use lib.ListN.{length}
-use Rattle.tree.specs.Table.{idAt, levelAt, startAt, sizeAt}
+use Rattle.node_table.specs.Entries.{idAt, levelAt, startAt, sizeAt}
 use Rattle.protocol.specs.Nodes.{Entry, entryAt, inside, entriesFrom, entriesIn, fromFirst}
 use Rattle.reply.specs.Parts.{asked, sought, matchAt, Found}
 

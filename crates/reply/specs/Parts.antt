@@ -6,7 +6,7 @@ use Prim.Native.Nat.{ℕ, _+_, _-_, _/_, _≤_, _<_}
 use lib.Dec.{leb, ltb, eqb}
 use lib.ListN.{length, take}
 use Rattle.tree.specs.declared.Settings.{Settings}
-use Rattle.tree.specs.Table.{idAt, levelAt}
+use Rattle.node_table.specs.Entries.{idAt, levelAt}
 use Rattle.shingle.specs.Table.{shinglesIn}
 use Rattle.trail.specs.Trails.{trailNumber}
 use Rattle.trail.specs.Calls.{nonzero}

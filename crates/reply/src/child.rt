@@ -17,10 +17,10 @@ pub struct Children {
 fn role(nodes: &[u8], size: usize, level: u64, k: usize) -> u64
     ensures { λ r. ⌜ r ≡ roleAt (now (nodes .entry)) size level k ⌝ }
 {
-    if tree::node_id(nodes, k) == 0 {
+    if node_table::node_id(nodes, k) == 0 {
         return 0;
     }
-    let own = tree::node_level(nodes, k);
+    let own = node_table::node_level(nodes, k);
     if own <= level {
         return 0;
     }
@@ -44,7 +44,7 @@ pub fn collect(nodes: &[u8], size: usize, level: u64, from: usize) -> Children
     let mut k = from;
     while k < end {
         let own = role(nodes, size, level, k);
-        let id = tree::node_id(nodes, k);
+        let id = node_table::node_id(nodes, k);
         k += 1;
         if own == 0 {
             return Children { count, ids };

@@ -23,7 +23,7 @@ pub fn opening(
         (encode (openingOf settings (now (string .entry)) (now (nodes .entry)) (now (cells .entry)) session)) r ⌝ }
 {
     let length = string.len() as u64;
-    let root = tree::node_id(nodes, 0);
+    let root = node_table::node_id(nodes, 0);
     message_writer::write_opening(
         buffer,
         session,
@@ -53,8 +53,8 @@ fn write_bytes(
     ensures { λ r. ⌜ Written (now (buffer .entry)) (now (buffer .exit))
         (encode (literal session level id (blockIn (now (string .entry)) (entryAt (now (nodes .entry)) k)))) r ⌝ }
 {
-    let start = tree::node_start(nodes, k) as usize;
-    let length = tree::node_length(nodes, k) as usize;
+    let start = node_table::node_start(nodes, k) as usize;
+    let length = node_table::node_length(nodes, k) as usize;
     message_writer::write_literal(buffer, session, level, id, &string[start..start + length])
 }
 

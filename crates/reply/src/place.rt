@@ -7,8 +7,8 @@ ghost use Rattle.reply.specs.Parts.{Found, matchAt};
 pub fn lies_inside(nodes: &[u8], size: usize, k: usize) -> bool
     ensures { λ r. ⌜ r ≡ inside size (entryAt (now (nodes .entry)) k) ⌝ }
 {
-    let start = tree::node_start(nodes, k);
-    let length = tree::node_length(nodes, k);
+    let start = node_table::node_start(nodes, k);
+    let length = node_table::node_length(nodes, k);
     start + length <= size as u64
 }
 
@@ -16,10 +16,10 @@ pub fn lies_inside(nodes: &[u8], size: usize, k: usize) -> bool
 fn matches(nodes: &[u8], size: usize, level: u64, id: u64, k: usize) -> bool
     ensures { λ r. ⌜ r ≡ matchAt (now (nodes .entry)) size level id k ⌝ }
 {
-    if tree::node_id(nodes, k) != id {
+    if node_table::node_id(nodes, k) != id {
         return false;
     }
-    if tree::node_level(nodes, k) != level {
+    if node_table::node_level(nodes, k) != level {
         return false;
     }
     lies_inside(nodes, size, k)
@@ -32,7 +32,7 @@ pub fn find(nodes: &[u8], size: usize, level: u64, id: u64) -> usize
     let count = nodes.len() / 16;
     let mut k = 0;
     while k < count {
-        if tree::node_id(nodes, k) == 0 {
+        if node_table::node_id(nodes, k) == 0 {
             return count;
         }
         if matches(nodes, size, level, id, k) {

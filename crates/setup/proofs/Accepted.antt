@@ -15,7 +15,8 @@ use Rattle.fnv.specs.Fnv.{blockId}
 use Rattle.tree.specs.declared.Settings.{Settings}
 use Rattle.tree.specs.Questions.{ask}
 use Rattle.tree.specs.Tree.{Node, node, treeOf, nodesOf}
-use Rattle.tree.specs.Table.{idAt, treeRefusal, treeAnswer, treeTable, Tabled}
+use Rattle.node_table.specs.Entries.{idAt}
+use Rattle.tree.specs.Table.{treeRefusal, treeAnswer, treeTable, Tabled}
 use Rattle.tree.proofs.Questions.{passed}
 use Rattle.tree.proofs.Listed.{node-listed}
 use Rattle.tree.proofs.Tree.{root-first}

@@ -7,7 +7,7 @@ use native.Mathlib.Omega.{arith}
 use borrow.Author.Tests.{eq-eqb, ne-eqb}
 use lib.ListN.{length, getD, take, replicate}
 use lib.Seq.{take-suc-set}
-use Rattle.tree.specs.Table.{idAt, levelAt}
+use Rattle.node_table.specs.Entries.{idAt, levelAt}
 use Rattle.entries.specs.declared.Entry.{Entry}
 use Rattle.entries.specs.Entries.{entry, tableOf, Put}
 use Rattle.entries.proofs.Entries.{length-table, put-length}

@@ -15,7 +15,8 @@ use Rattle.fnv.proofs.Fnv.{block-id-nonzero}
 use Rattle.tree.specs.declared.Settings.{Settings}
 use Rattle.tree.specs.Questions.{ask, refusal}
 use Rattle.tree.specs.Tree.{Node, node, nodesOf}
-use Rattle.tree.specs.Table.{idAt, treeRefusal, treeAnswer, treeTable, Tabled}
+use Rattle.node_table.specs.Entries.{idAt}
+use Rattle.tree.specs.Table.{treeRefusal, treeAnswer, treeTable, Tabled}
 use Rattle.tree.specs.Laws.{Listed}
 use Rattle.tree.proofs.Questions.{passed}
 use Rattle.tree.proofs.Listed.{node-listed, none-listed}

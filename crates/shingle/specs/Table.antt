@@ -5,7 +5,7 @@ use mathlib.Core.Path.{_≡_}
 use Prim.Native.Nat.{ℕ, zero, suc, _+_, _*_, _-_, _/_, _%_, _^_, _≤_}
 use lib.Dec.{leb, eqb}
 use lib.ListN.{length, getD, replicate}
-use Rattle.tree.specs.Table.{idAt, levelAt}
+use Rattle.node_table.specs.Entries.{idAt, levelAt}
 use Rattle.entries.specs.declared.Entry.{Entry}
 use Rattle.entries.specs.Entries.{entry, blank, tableOf, tableBytes}
 use Rattle.shingle.specs.declared.Shingle.{Shingle}

@@ -28,11 +28,11 @@ pub fn write_pairs(nodes: &[u8], table: &mut [u8]) -> usize
     let mut last = [0u64; 8];
     let mut i = 0;
     while i < 4096 {
-        let id = tree::node_id(nodes, i);
+        let id = node_table::node_id(nodes, i);
         if id == 0 {
             return i;
         }
-        let level = tree::node_level(nodes, i);
+        let level = node_table::node_level(nodes, i);
         let place = level as usize;
         let previous = last[place];
         let tail = level * 65536 + 1;

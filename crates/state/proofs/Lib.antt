@@ -2,5 +2,3 @@
 pub mod Nine
 pub mod Pushing
 pub mod Asking
-pub mod Loading
-pub mod Storing

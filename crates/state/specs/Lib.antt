@@ -2,4 +2,3 @@
 pub mod Receivers
 pub mod Pushing
 pub mod Asking
-pub mod Bytes

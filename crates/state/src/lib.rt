@@ -1,5 +1,4 @@
 // The receiver's state between its calls, by value: what it starts with, goes on with and ends with, its question 9, and its query.
-pub mod bytes;
 mod pile;
 mod question;
 

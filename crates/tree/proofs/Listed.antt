@@ -12,10 +12,11 @@ use Rattle.rows.specs.Rows.{wordsOf, bytesOf}
 use Rattle.rows.proofs.Rows.{words-cons, zero-rows}
 use Rattle.fnv.specs.Fnv.{blockId}
 use Rattle.fnv.proofs.Fnv.{block-id-small}
+use Rattle.node_table.specs.Entries.{packed, idAt, extentAt}
 use Rattle.tree.specs.declared.Settings.{Settings}
 use Rattle.tree.specs.Questions.{refusal, ask}
 use Rattle.tree.specs.Tree.{Node, nodesOf}
-use Rattle.tree.specs.Table.{packed, entryOf, entriesOf, treeRefusal, treeTable, idAt, extentAt}
+use Rattle.tree.specs.Table.{entryOf, entriesOf, treeRefusal, treeTable}
 use Rattle.tree.specs.Laws.{Each, none, both, Within, Listed}
 use Rattle.tree.proofs.Questions.{granted}
 use Rattle.tree.proofs.Tree.{each-at, nodes-within, nodes-shallow}

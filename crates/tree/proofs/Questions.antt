@@ -3,12 +3,13 @@ use mathlib.Core.Bool.{Bool, true, false, cond, _&&_, false≢true}
 use mathlib.Core.Logic.{_≢_}
 use mathlib.Core.Path.{_≡_, refl, sym, _∙_}
 use Prim.Native.Nat.{ℕ, _^_, _≤_}
-use native.Mathlib.Nat.{suc-ne-zero}
+use native.Mathlib.Nat.{suc-ne-zero, zero-add}
+use native.Mathlib.Omega.{arith}
 use borrow.Author.Tests.{leb-true, eq-eqb, ne-eqb}
 use lib.Dec.{leb, eqb}
 use Rattle.tree.specs.declared.Settings.{Settings}
 use Rattle.tree.specs.Questions.{within, ask, refusal}
-use Rattle.tree.specs.Bounds.{Granted, shapeRefusal, sizeRefusal}
+use Rattle.tree.specs.Bounds.{Granted, Cutting, shapeRefusal, sizeRefusal}
 
 -- A question that is passed: its test held, and those after it are passed too.
 pub passed : (test : Bool) (number next : ℕ) → number ≢ 0 → ask test number next ≡ 0 → (test ≡ true) × (next ≡ 0)
@@ -76,3 +77,9 @@ granted σ size e =
       },
       leb-true _ _ (six .0),
     )
+
+-- A string that passes them is to be cut, from its first byte and into the whole table.
+pub first-cutting : (σ : Settings) (size places : ℕ) → refusal σ size ≡ 0 → places ≡ 65536 → Cutting σ (σ .levels) 0 0 size places 0
+first-cutting σ size places e room =
+    let g = granted σ size e in
+    record { settings = g .0; depth = zero-add _; inside = rw zero-add (g .1); room = room; within = omega arith }

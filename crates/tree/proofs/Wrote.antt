@@ -10,8 +10,9 @@ use lib.Seq.{length-take-le, take-at, drop-append-add, drop-drop}
 use borrow.Author.Tests.{le-leb}
 use Rattle.rows.specs.Rows.{bytesOf, storeOf}
 use Rattle.fnv.specs.Fnv.{blockId}
+use Rattle.node_table.specs.Entries.{packed}
 use Rattle.tree.specs.Tree.{Node}
-use Rattle.tree.specs.Table.{packed, entryOf, entriesOf}
+use Rattle.tree.specs.Table.{entryOf, entriesOf}
 use Rattle.tree.specs.Wrote.{put, Wrote}
 
 pub length-bytes : (x : ℕ) → length (bytesOf x) ≡ 8

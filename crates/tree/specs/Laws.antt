@@ -4,8 +4,8 @@ use mathlib.Core.Path.{_≡_}
 use Prim.Native.Nat.{ℕ, _+_, _≤_}
 use lib.ListN.{length, take, drop}
 use Rattle.fnv.specs.Fnv.{blockId}
+use Rattle.node_table.specs.Entries.{idAt, levelAt, startAt, sizeAt}
 use Rattle.tree.specs.Tree.{Node}
-use Rattle.tree.specs.Table.{idAt, levelAt, startAt, sizeAt}
 
 -- A node without its place: level and bytes.
 pub record Content : Type 0 where

@@ -1,19 +1,16 @@
--- The node table: 16 bytes an entry, two rows of 64 bits. What cutting a string answers and leaves, and what an entry says.
+-- The node table: 16 bytes an entry, two rows of 64 bits. What cutting a string answers and leaves.
 use mathlib.Core.Bool.{cond}
 use mathlib.Core.List.{List, [], _∷_, _++_}
 use mathlib.Core.Path.{_≡_}
-use Prim.Native.Nat.{ℕ, _+_, _*_, _-_, _/_, _%_, _^_}
+use Prim.Native.Nat.{ℕ, _+_, _*_, _-_, _^_}
 use lib.Dec.{leb, eqb}
-use lib.ListN.{length, getD, replicate}
-use Rattle.rows.specs.Rows.{wordsOf, bytesOf}
+use lib.ListN.{length, replicate}
+use Rattle.rows.specs.Rows.{bytesOf}
 use Rattle.fnv.specs.Fnv.{blockId}
+use Rattle.node_table.specs.Entries.{packed}
 use Rattle.tree.specs.declared.Settings.{Settings}
 use Rattle.tree.specs.Questions.{ask, refusal}
 use Rattle.tree.specs.Tree.{Node, nodesOf}
-
--- Level, length and start in one row: level below 8, length and start below 2^17.
-abbrev pub packed : ℕ → ℕ → ℕ → ℕ
-packed level start size = level + 8 * (size + 131072 * start)
 
 -- An entry: the row of the id, then the row of level, length and start.
 unfoldable pub entryOf : Node → List ℕ
@@ -49,20 +46,3 @@ treeTable σ string t =
 pub record Tabled (σ : Settings) (string before after : List ℕ) (r : ℕ) : Type 0 where
   pub answer : r ≡ treeAnswer σ string (length before)
   pub table : after ≡ treeTable σ string before
-
--- What entry k of any table says; 0 where the table has no such entry.
-unfoldable pub idAt : List ℕ → ℕ → ℕ
-idAt t k = getD (wordsOf t) (k * 2) 0
-
--- The row of level, length and start of entry k, and its three parts.
-unfoldable pub extentAt : List ℕ → ℕ → ℕ
-extentAt t k = getD (wordsOf t) (k * 2 + 1) 0
-
-abbrev pub levelAt : List ℕ → ℕ → ℕ
-levelAt t k = extentAt t k % 8
-
-abbrev pub sizeAt : List ℕ → ℕ → ℕ
-sizeAt t k = extentAt t k / 8 % 131072
-
-abbrev pub startAt : List ℕ → ℕ → ℕ
-startAt t k = extentAt t k / 8 / 131072 % 131072

@@ -3,29 +3,8 @@ ghost use mathlib.Core.List.{[], _∷_};
 ghost use mathlib.Core.Path.{_≡_};
 ghost use Prim.Native.Nat.{_+_, _≤_};
 ghost use lib.ListN.{length};
-ghost use Rattle.tree.specs.Table.{idAt, extentAt};
 ghost use Rattle.tree.specs.Tree.{node};
 ghost use Rattle.tree.specs.Wrote.{Wrote};
-
-// The first row of entry k, or 0 where the table has no such row.
-pub fn first_row(nodes: &[u8], k: usize) -> u64
-    ensures { λ r. ⌜ r ≡ idAt (now (nodes .entry)) k ⌝ }
-{
-    if nodes.len() / 8 <= k {
-        return 0;
-    }
-    rows::load(nodes, k * 2)
-}
-
-// The second row of entry k, or 0 where the table has no such row.
-pub fn second_row(nodes: &[u8], k: usize) -> u64
-    ensures { λ r. ⌜ r ≡ extentAt (now (nodes .entry)) k ⌝ }
-{
-    if nodes.len() / 8 <= k {
-        return 0;
-    }
-    rows::load(nodes, k * 2 + 1)
-}
 
 // Writes a node's entry after `used` others. The answer is how many there are then, or 4,097 if the table is full.
 pub fn append(level: u64, start: usize, bytes: &[u8], table: &mut [u8], used: usize) -> usize

@@ -1,4 +1,4 @@
-// A string's tree of blocks: the settings and their questions, the node table that the tree is written to, and reading it.
+// A string's tree of blocks: the settings and their questions, and the node table that the tree is written to.
 mod cut;
 mod entry;
 mod level;
@@ -6,7 +6,7 @@ mod limits;
 
 ghost use mathlib.Core.Path.{_≡_};
 ghost use Rattle.tree.specs.Questions.{refusal};
-ghost use Rattle.tree.specs.Table.{Tabled, idAt, levelAt, sizeAt, startAt};
+ghost use Rattle.tree.specs.Table.{Tabled};
 
 // Document 01's settings: window w, fan-out p, levels L, nominal length M, sketch width q.
 pub struct Settings {
@@ -57,32 +57,4 @@ pub fn cut_string(settings: Settings, string: &[u8], nodes: &mut [u8]) -> u64
     }
     rows::clear(nodes, used * 16);
     4294967296 + used as u64
-}
-
-// The id of entry k of a node table.
-pub fn node_id(nodes: &[u8], k: usize) -> u64
-    ensures { λ r. ⌜ r ≡ idAt (now (nodes .entry)) k ⌝ }
-{
-    entry::first_row(nodes, k)
-}
-
-// The level of entry k of a node table.
-pub fn node_level(nodes: &[u8], k: usize) -> u64
-    ensures { λ r. ⌜ r ≡ levelAt (now (nodes .entry)) k ⌝ }
-{
-    entry::second_row(nodes, k) % 8
-}
-
-// How many bytes the node of entry k of a node table has.
-pub fn node_length(nodes: &[u8], k: usize) -> u64
-    ensures { λ r. ⌜ r ≡ sizeAt (now (nodes .entry)) k ⌝ }
-{
-    entry::second_row(nodes, k) / 8 % 131072
-}
-
-// Where the node of entry k of a node table starts in the string.
-pub fn node_start(nodes: &[u8], k: usize) -> u64
-    ensures { λ r. ⌜ r ≡ startAt (now (nodes .entry)) k ⌝ }
-{
-    entry::second_row(nodes, k) / 8 / 131072 % 131072
 }

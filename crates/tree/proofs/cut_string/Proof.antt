@@ -1,12 +1,10 @@
 -- Each way out is an outcome of the definition. The first 65,536 bytes of the table are lent to be written, the rest is cleared.
 use mathlib.Core.Path.{refl, sym, _∙_}
 use Prim.Native.Nat.{ℕ, _+_, _*_, _^_, _≤_, _<_}
-use native.Mathlib.Nat.{zero-add}
 use native.Mathlib.Omega.{arith}
 use borrow.Author.Needs.{needs}
-use lib.ListN.{length}
 use lib.Seq.{length-take-le}
-use Rattle.tree.proofs.Questions.{granted}
+use Rattle.tree.proofs.Questions.{first-cutting}
 use Rattle.tree.proofs.Outcome.{refused-settings, refused-room, refused-count, accepted}
 use Rattle.tree.proofs.cut_string.Statement.{statement}
 use Rattle.tree.proofs.cut_string.Tie as tie
@@ -36,15 +34,8 @@ slice-aggregate-cut-node c =
 cut-node-requires : tie.Need-cut-node-requires
 cut-node-requires c κs =
     let asked = c .before .before .before in
-    let a = asked .before .before .before .args in
-    let g = granted (a .settings) (length (a .string .now)) (sym (asked .question .ensures) ∙ c .before .before .if1 .left) in
-    record {
-      settings = g .0;
-      depth = zero-add _;
-      inside = rw zero-add (g .1);
-      room = length-take-le 65536 (a .nodes .now) (c .before .if2 .left);
-      within = omega arith;
-    }
+    first-cutting _ _ _ (sym (asked .question .ensures) ∙ c .before .before .if1 .left)
+    (length-take-le 65536 (asked .before .before .before .args .nodes .now) (c .before .if2 .left))
 
 clear-requires : tie.Need-clear-requires
 clear-requires c κs = search needs
@@ -56,8 +47,9 @@ returns-3 : tie.Need-returns-3
 returns-3 c =
     let cut = c .before .before .before .before .before .before .before in
     let asked = cut .before .before .before .before in
-    refused-count _ _ _ (sym (asked .question .ensures) ∙ cut .before .before .before .if1 .left) (cut .before .before .if2 .left) _ _ (cut .cut-node .ensures)
-    (cut .cut-node .kept .1 .1 .1 .1 .1 .0) _ (c .before .before .before .before .if3 .taken) (c .before .before .clear .ensures)
+    let a = asked .before .before .before .args in
+    refused-count (a .settings) (a .string .now) (a .nodes .now) (sym (asked .question .ensures) ∙ cut .before .before .before .if1 .left) (cut .before .before .if2 .left) _ _
+    (cut .cut-node .ensures) (cut .cut-node .kept .1 .1 .1 .1 .1 .0) _ (c .before .before .before .before .if3 .taken) (c .before .before .clear .ensures)
 
 mul-clear : tie.Need-mul-clear
 mul-clear c = record { fits = times-fits _ (c .before .if3 .left) }
@@ -75,8 +67,9 @@ returns-4 : tie.Need-returns-4
 returns-4 c =
     let cut = c .before .before .before .before .before .before .before in
     let asked = cut .before .before .before .before in
-    accepted _ _ _ (sym (asked .question .ensures) ∙ cut .before .before .before .if1 .left) (cut .before .before .if2 .left) _ _ (cut .cut-node .ensures)
-    (cut .cut-node .kept .1 .1 .1 .1 .1 .0) _ _ (c .before .before .before .before .if3 .left) (c .before .before .clear2 .ensures) refl
+    let a = asked .before .before .before .args in
+    accepted (a .settings) (a .string .now) (a .nodes .now) (sym (asked .question .ensures) ∙ cut .before .before .before .if1 .left) (cut .before .before .if2 .left) _ _
+    (cut .cut-node .ensures) (cut .cut-node .kept .1 .1 .1 .1 .1 .0) _ _ (c .before .before .before .before .if3 .left) (c .before .before .clear2 .ensures) refl
 
 pub cut-string-spec : {M : Type 1} → statement M
 cut-string-spec =

@@ -1,0 +1,3 @@
+-- Lists of calls from C, and demand 3 of them.
+pub mod Made
+pub mod Demand

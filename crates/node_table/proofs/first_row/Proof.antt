@@ -1,0 +1,23 @@
+-- A row is loaded, or there is none.
+use borrow.Author.Needs.{needs}
+use Rattle.rows.proofs.Rows.{no-row}
+use Rattle.node_table.specs.Entries.{idAt}
+use Rattle.node_table.proofs.first_row.Statement.{statement}
+use Rattle.node_table.proofs.first_row.Tie as tie
+
+returns : tie.Need-returns
+unfolding idAt
+returns c = no-row _ _ (search needs)
+
+mul-load : tie.Need-mul-load
+mul-load c = search needs
+
+load-requires : tie.Need-load-requires
+load-requires c κs = search needs
+
+returns-2 : tie.Need-returns-2
+unfolding idAt
+returns-2 c = c .load .ensures
+
+pub first-row-spec : {M : Type 1} → statement M
+first-row-spec = tie.close (tie.spec returns mul-load load-requires returns-2)

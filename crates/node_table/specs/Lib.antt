@@ -1,0 +1,2 @@
+-- What an entry of a node table says.
+pub mod Entries

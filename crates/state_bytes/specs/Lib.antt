@@ -1,0 +1,2 @@
+-- The receiver's state in lent bytes.
+pub mod Bytes
