@@ -139,12 +139,12 @@ value-small x = (part-lawful .small _, (part-lawful .small _, (part-lawful .smal
 value-is-to : (x : ℕ) (ws : List ℕ) → value .Fits x → value .Stops ws → value .is (value .to x ++ ws) ≡ true
 unfolding value partsTest partsValue
 value-is-to x ws f s =
-    let top : x / 2 ^ 28 / 2 ^ 28 % 2 ^ 28 < 256 = omega arith in
-    rw (part-is (x / 2 ^ 28 / 2 ^ 28), part-is (x / 2 ^ 28), part-is x, part-of (x / 2 ^ 28 / 2 ^ 28), lt-ltb _ 256 top)
+    let top : partWord .of (getD (value .to x) 0 0) < 256 = rw part-of (omega arith) in
+    simp part-is (lt-ltb _ 256 top)
 
 value-of-to : (x : ℕ) (ws : List ℕ) → value .Fits x → value .Stops ws → value .of (value .to x ++ ws) ≡ x
 unfolding value partsValue
-value-of-to x ws f s = rw (part-of (x / 2 ^ 28 / 2 ^ 28), part-of (x / 2 ^ 28), part-of x) (omega arith)
+value-of-to x ws f s = simp part-of (omega arith)
 
 value-after-to : (x : ℕ) (ws : List ℕ) → value .Fits x → value .Stops ws → value .after (value .to x ++ ws) ≡ ws
 unfolding value

@@ -84,7 +84,7 @@ module _ (σ : Settings) (string own : List ℕ) (n : ℕ) (sender : Accepted σ
           eq-eqb (σ .width) (σ .width) refl,
         ) refl)
         ∙ (ask-true 13 _ _ (rw (le-leb (length string) 65536 short, le-leb (length string) (length (m .output)) (memory .room)) refl)
-        ∙ ask-true 14 _ _ (rw (memory .listed, peeled-between) opens))
+        ∙ ask-true 14 _ _ (rw (memory .listed) (ap (opensTo (shinglesOfString σ own)) peeled-between ∙ opens)))
 
     -- With the new list in the table, the memory is as it was.
     renewed-table : List ℕ
@@ -172,7 +172,8 @@ module _ (σ : Settings) (string own : List ℕ) (n : ℕ) (sender : Accepted σ
           let pile : children (shinglesIn (m .shingles)) (c .level) (trailNumber ids) refs ++ map nameOf cs ≡ map nameOf (childrenBlocks σ c ++ cs) =
           ap (λ (list : List Shingle). children list (c .level) (trailNumber ids) refs ++ map nameOf cs) (memory .listed)
           ∙ (ap (λ (p : List Pending). p ++ map nameOf cs) (composition-children σ string c real deep refs order small) ∙ sym (names-children σ string c cs)) in
-          rw pile
+          let leaves : act s m (composition session (c .level) i (trailNumber ids) refs) ≡ takeNode s m _ [] (map nameOf (childrenBlocks σ c ++ cs)) = ap (takeNode s m _ []) pile in
+          subst (Outcome σ string own n still) (sym leaves)
           (node-taken _ [] (childrenBlocks σ c ++ cs) passes (omega (arith, bytes-fit σ string holding))
           (subst (λ (b : List ℕ). Holding σ string (childrenBlocks σ c ++ cs) b (taken + 1)) (sym (append-nil built)) after))
 

@@ -51,7 +51,7 @@ module _ (σ : Settings) (string : List ℕ) where
   unfolding fits
   reply-fits query m r =
       let a = answering query m r in
-      rw (eq-eqb _ _ (a .session), eq-eqb _ _ (a .level), eq-eqb _ _ (a .id)) (go (eqb (typeOf query) 1) (eqb (typeOf m) 3) (within 4 6 (typeOf m)) (a .type))
+      simp (a .session, a .level, a .id, eq-eqb) (go (eqb (typeOf query) 1) (eqb (typeOf m) 3) (within 4 6 (typeOf m)) (a .type))
     where
       go : (t u v : Bool) → cond t u v ≡ true → cond t u (v && true) ≡ true
       go true u v e = e

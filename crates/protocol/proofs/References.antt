@@ -188,7 +188,8 @@ module _ (list : List Shingle) (rises : Rising list) (l : ℕ) (ids : List ℕ)
       let one : shingle (pairOf s) (other .0) ≡ s = one-of-pair (shingle (pairOf s) (other .0)) s rises (other .1) here refl in
       let count : other .0 ≡ s .count = ap (λ (x : Shingle). x .count) one in
       let level : s .level ≡ l = along-level l 0 ids (pairOf s) some in
-      rw (e, lt-ltb i (length list) h, eq-eqb (s .level) l level, le-leb (suc n) (s .count) (omega (arith, other .2, count, t))) refl
+      let few : suc n ≤ s .count = omega (arith, other .2) in
+      rw (e, lt-ltb i (length list) h, eq-eqb (s .level) l level, le-leb)
 
   none-wrong : (i : ℕ) (ss : List Shingle) → From i ss → total wrong (refsFrom i ss l ids) ≡ 0
   unfolding total refsFrom

@@ -157,9 +157,8 @@ module _ (σ : Settings) (string own : List ℕ) (n : ℕ) where
       hands-over : (built : List ℕ) → Holding σ string [] built taken → Outcome still (conclude s m shingles (length string) (blockId string) taken (left built []))
       unfolding conclude
       hands-over built h =
-          let all : built ≡ string = all-built σ string h in
-          rw (eq-eqb (length built) (length string) (ap length all), eq-eqb (blockId built) (blockId string) (ap blockId all))
-          (handed-over built all)
+          rw (all-built σ string h, eq-eqb (length string) (length string) refl, eq-eqb (blockId string) (blockId string) refl)
+          (handed-over string refl)
 
       pub concluded : (t : Settled) → Settles σ string taken t → Outcome still (conclude s m shingles (length string) (blockId string) taken t)
       concluded t settles = rw (settles .is) (go (settles .blocks) (settles .holding))

@@ -76,7 +76,7 @@ Before xs ys = before xs ys ≡ true
 
 before-later : (x y : ℕ) (xs ys : List ℕ) → x < y → Before (x ∷ xs) (y ∷ ys)
 unfolding before
-before-later x y xs ys h = rw (lt-ltb x y h)
+before-later x y xs ys h = rw lt-ltb
 
 before-same : (x : ℕ) (xs ys : List ℕ) → Before xs ys → Before (x ∷ xs) (x ∷ ys)
 unfolding before
