@@ -1,26 +1,29 @@
--- From the number that taking a message answers its answer is read back: a refusal's number is neither 0 nor from 2^32 on.
-use mathlib.Core.Bool.{Bool, _&&_}
+-- From the number that taking a message answers its answer is read back: a refusal's number is neither 0 nor from 2^32 on. And as many bytes
+-- as are handed over stand in the output.
+use mathlib.Core.Bool.{Bool, true, _&&_}
 use mathlib.Core.List.{List, [], _∷_}
 use mathlib.Core.Option.{Option, none, some}
 use mathlib.Core.Path.{_≡_, refl, ap}
 use Prim.Native.Nat.{ℕ, _+_, _-_, _^_, _≤_, _<_}
 use native.Mathlib.Nat.{suc-ne-zero}
 use native.Mathlib.Omega.{arith}
-use borrow.Author.Tests.{eqb-false, ne-eqb, le-leb, lt-leb}
+use borrow.Author.Tests.{eqb-true, eqb-false, ne-eqb, le-leb, lt-leb}
 use lib.Dec.{eqb}
-use lib.ListN.{length}
+use lib.ListN.{length, drop, length-append}
 use Rattle.fnv.specs.Fnv.{blockId}
+use Rattle.shingle.proofs.PairOrder.{and-true}
 use Rattle.setup.specs.Questions.{tablesFit}
 use Rattle.setup.proofs.Questions.{ask-small, lent-small}
 use Rattle.message.specs.Messages.{Msg, openingQuery, nodeQuery, opening, composition, literal, noNode, parse}
 use Rattle.protocol.specs.Lent.{Lent, refusedBy}
 use Rattle.protocol.specs.State.{Pending, State, running, outstanding}
-use Rattle.protocol.specs.Receiver.{Answer, refused, waiting, handed, numberOf, Result, unchanged, ends, Settled, tooLong, left, conclude, openingRefusal, takeOpening, nodeRefusal, takeNode, act, hear, matches, takeMessage}
-use Rattle.protocol.proofs.Cases.{chosen}
+use Rattle.protocol.specs.Receiver.{Answer, refused, waiting, handed, numberOf, Result, unchanged, ends, Settled, tooLong, left, outputWith, conclude, openingRefusal, takeOpening, nodeRefusal, takeNode, act, hear, matches, takeMessage}
+use Rattle.protocol.proofs.Cases.{chosen, sizeIn, refused-not, waiting-not}
 use Rattle.demand.specs.Made.{answerOf}
 
 pub record Told (R : Result) : Type 0 where
   pub told : answerOf (numberOf (R .answer)) ≡ R .answer
+  pub holds : (size : ℕ) → R .answer ≡ handed size → size ≤ length (R .lent .output)
 
 refused-told : (k : ℕ) → (k ≡ 0 → ⊥) → k ≤ 19 → answerOf (numberOf (refused k)) ≡ refused k
 unfolding answerOf numberOf
@@ -39,20 +42,25 @@ waiting-told = refl
 module _ (s : State) (m : Lent) where
   told-unchanged : (k : ℕ) → (k ≡ 0 → ⊥) → k ≤ 19 → Told (unchanged k s m)
   unfolding unchanged
-  told-unchanged k fails low = record { told = refused-told k fails low }
+  told-unchanged k fails low = record { told = refused-told k fails low; holds = λ size e. absurd (refused-not e) }
 
   told-ends : (k : ℕ) → (k ≡ 0 → ⊥) → k ≤ 19 → Told (ends k s m)
   unfolding ends
-  told-ends k fails low = record { told = refused-told k fails low }
+  told-ends k fails low = record { told = refused-told k fails low; holds = λ size e. absurd (refused-not e) }
+
+  output-holds : (built : List ℕ) (size n : ℕ) → eqb (length built) size ≡ true → size ≡ n → n ≤ length (outputWith built (m .output))
+  unfolding outputWith
+  output-holds built size n e f =
+      omega (arith, eqb-true (length built) size e, f, length-append built (drop (length built) (m .output)))
 
   told-conclude : (shingles : List ℕ) (size root taken : ℕ) (t : Settled) → Told (conclude s m shingles size root taken t)
-  unfolding conclude
+  unfolding conclude sizeIn
   told-conclude shingles size root taken tooLong = told-ends 18 (suc-ne-zero 17) (omega arith)
   told-conclude shingles size root taken (left built []) =
       chosen Told (eqb (length built) size && eqb (blockId built) root) _ _
-      (λ e. record { told = handed-told size })
+      (λ e. record { told = handed-told size; holds = λ n f. output-holds built size n (and-true (eqb (length built) size) _ e .0) (ap sizeIn f) })
       (λ e. told-ends 19 (suc-ne-zero 18) (omega arith))
-  told-conclude shingles size root taken (left built (e ∷ es)) = record { told = waiting-told }
+  told-conclude shingles size root taken (left built (e ∷ es)) = record { told = waiting-told; holds = λ n f. absurd (waiting-not f) }
 
   opening-small : (rule w p L M q size : ℕ) (cells : List ℕ) → openingRefusal s m rule w p L M q size cells ≤ 19
   unfolding openingRefusal

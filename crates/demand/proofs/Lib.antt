@@ -1,3 +1,6 @@
--- Why demand 3 holds of the calls that C makes.
+-- Why demand 3 holds of the calls that C makes, and why a session between two ends goes through.
 pub mod Answers
 pub mod Demand
+pub mod Sizes
+pub mod Round
+pub mod Session

@@ -1,2 +1,3 @@
-// Demand 3 of the calls that C makes, in bytes and numbers: the statement stands in specs/, the theorem in proofs/Demand.antt. There is no
-// code here: the calls are those of crate `rcds`, whose promises the theorem is about.
+// Demand 3 of the calls that C makes, in bytes and numbers: the statement stands in specs/, the theorem in proofs/Demand.antt. And a whole
+// session between two ends that are both at hand goes through: proofs/Session.antt. There is no code here: the calls are those of crates
+// `rcds` and `session`, whose promises the theorems are about.
