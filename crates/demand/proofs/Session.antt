@@ -34,9 +34,9 @@ use Rattle.protocol.proofs.Session.{Accepts, delivered-accepted, starts-asks, p
 use Rattle.protocol.proofs.Own.{replies-genuine}
 use Rattle.protocol.proofs.Demand.{theirs-apart, the-start}
 use Rattle.session.specs.Session.{Standing, standing, after, round, rounds, refusedAt, filled, sessionBetween}
-use Rattle.demand.specs.Session.{GoesThrough}
+use Rattle.demand.specs.Session.{HandedOver, GoesThrough, RunGoesThrough}
 use Rattle.demand.proofs.Answers.{told-take}
-use Rattle.demand.proofs.Sizes.{reply-short}
+use Rattle.demand.proofs.Sizes.{reply-fits}
 use Rattle.demand.proofs.Round.{put, put-long, Query, opening-query, node-query, round-is}
 
 -- An accepted reply leaves the session waiting, or hands over.
@@ -152,7 +152,7 @@ module _ (σ : Settings) (n : ℕ) (sender receiver : Lent) (yes-sender : SetupA
 
   -- Where the session then stands: the string is handed over.
   abbrev Through : Standing → Type 0
-  Through now = (now .answer ≡ 2 ^ 32 + length string) × (take (length string) (now .lent .output) ≡ string)
+  Through now = HandedOver string (now .answer) (now .lent .output)
 
   -- Once the reply hands over there is no further round. If it does not, what is left of the rounds decides.
   module _ (budget still : ℕ) (s : State) (m : Lent) (buffer : List ℕ) (x : Exchange still s m buffer) where
@@ -165,10 +165,10 @@ module _ (σ : Settings) (n : ℕ) (sender receiver : Lent) (yes-sender : SetupA
         let front : take k (R .lent .output) ≡ string = x .accepted .outcome .whole k e in
         let long : k ≡ length string = sym (length-take-le k (R .lent .output) (told-take s m (x .bytes) .holds k e)) ∙ ap length front in
         let answer : numberOf (R .answer) ≡ 2 ^ 32 + k = ap numberOf e in
-        subst Through (sym (rounds-stop budget σ theirs (after R (x .left)) (λ z. omega (arith, answer, z)))) (
-          answer ∙ ap (λ (j : ℕ). 2 ^ 32 + j) long,
-          ap (λ (j : ℕ). take j (R .lent .output)) (sym long) ∙ front,
-        )
+        subst Through (sym (rounds-stop budget σ theirs (after R (x .left)) (λ z. omega (arith, answer, z)))) (record {
+          length-is = answer ∙ ap (λ (j : ℕ). 2 ^ 32 + j) long;
+          bytes-are = ap (λ (j : ℕ). take j (R .lent .output)) (sym long) ∙ front;
+        })
 
     first-round : (running (R .state) ≡ true → Through (rounds budget σ theirs (standing 0 (R .state) (R .lent) (x .left))))
         → Through (rounds (suc budget) σ theirs (standing 0 s m buffer))
@@ -195,9 +195,20 @@ module _ (σ : Settings) (n : ℕ) (sender receiver : Lent) (yes-sender : SetupA
 
 pub goes-through : GoesThrough
 unfolding sessionBetween refusedAt
-goes-through σ n sender receiver buffer yes-sender yes-receiver given room =
-    rw (eq-eqb _ 0 yes-sender, eq-eqb _ 0 yes-receiver, filled-is σ sender yes-sender, filled-is σ receiver yes-receiver)
-    (through σ n sender receiver yes-sender yes-receiver given (length buffer)
-    (λ query x e. omega (arith, room, reply-short σ (leftBySetup σ sender) (given .sender .questions) query x e))
+goes-through σ n sender receiver buffer ready =
+    let ours = ready .receiver-accepted in
+    let theirs = ready .sender-accepted in
+    let given = ready .ends in
+    rw (eq-eqb _ 0 theirs, eq-eqb _ 0 ours, filled-is σ sender theirs, filled-is σ receiver ours)
+    (through σ n sender receiver theirs ours given (length buffer)
+    (reply-fits σ (leftBySetup σ sender) (given .sender .questions) (length buffer) (ready .opening-fits) (ready .literal-fits))
     _ _ (initial σ n) (leftBySetup σ receiver) buffer (omega (arith, given .sender .few))
-    (starts (the-start σ receiver n yes-receiver (sender .string) given)) (session-runs σ n) refl)
+    (starts (the-start σ receiver n ours (sender .string) given)) (session-runs σ n) refl)
+
+pub run-goes-through : RunGoesThrough
+run-goes-through σ n sender sender′ receiver receiver′ buffer buffer′ r ready ran =
+    let whole = goes-through σ n sender receiver buffer ready in
+    record {
+      length-is = ran .receiver .answer ∙ whole .length-is;
+      bytes-are = ap (λ (m : Lent). take (length (sender .string)) (m .output)) (ran .receiver .memory) ∙ whole .bytes-are;
+    }
