@@ -7,8 +7,7 @@ use reference::settings::Settings;
 const ZEROS: usize = 0;
 const RANDOM: usize = 1;
 
-/// One level with h from 1 to 32,768, among them 500 and 2,000, where 4 and 16 KiB are just long enough for
-/// `positions_grow_with_it`; four levels with p = 2 and with p = 8, the first h from 8 to
+/// One level with h from 1 to 32,768; four levels with p = 2 and with p = 8, the first h from 8 to
 /// 32,768 and the last from 1 to 4,096; the shortest and the longest window.
 pub fn settings() -> Vec<Settings> {
     let with = |window, fan_out, levels, nominal| Settings {
@@ -18,9 +17,7 @@ pub fn settings() -> Vec<Settings> {
         nominal,
     };
     let mut settings = Vec::new();
-    for h in [
-        1, 4, 16, 64, 256, 500, 1_024, 2_000, 4_096, 8_192, 16_384, 32_768,
-    ] {
+    for h in [1, 4, 16, 64, 256, 1_024, 4_096, 8_192, 16_384, 32_768] {
         settings.push(with(12, 2, 1, 2 * h));
     }
     for window in [12, 2] {
@@ -103,33 +100,17 @@ fn times(longer: f64, shorter: f64) -> f64 {
 }
 
 /// How much longer each string takes than the one of a quarter of its length, with the same
-/// settings, where the shorter one is wanted.
-fn growth(row: &Row, wanted: fn(&Settings, usize) -> bool) -> Vec<Figure> {
+/// settings.
+fn growth(row: &Row) -> Vec<Figure> {
     let mut figures = Vec::new();
     for (costs, (content, _)) in row.costs.iter().zip(CONTENTS) {
         for pair in costs.windows(2) {
-            if wanted(&row.settings, pair[0].length) {
-                let longer = pair[1].length / 1_024;
-                let place = format!("{}, {content} of {longer} KiB", name(&row.settings));
-                figures.push((times(pair[1].passes, pair[0].passes), place));
-            }
+            let longer = pair[1].length / 1_024;
+            let place = format!("{}, {content} of {longer} KiB", name(&row.settings));
+            figures.push((times(pair[1].passes, pair[0].passes), place));
         }
     }
     figures
-}
-
-/// How many positions of a string of this length can be candidates at level 1.
-fn positions(settings: &Settings, length: usize) -> usize {
-    let rule = settings.rule(1);
-    (length + 1).saturating_sub(2 * rule.distance + rule.window)
-}
-
-/// Whether a string has such positions, and four times the bytes have at most five times as many. The h
-/// positions barred at each end are a smaller share of a longer string, so that after a short one they
-/// are more.
-fn positions_grow_with_it(settings: &Settings, length: usize) -> bool {
-    let (shorter, longer) = (positions(settings, length), positions(settings, 4 * length));
-    shorter > 0 && longer <= 5 * shorter
 }
 
 fn zeros_to_random(row: &Row) -> Vec<Figure> {
@@ -171,15 +152,10 @@ fn print_growth(rows: &[Row]) {
     println!(
         "Four times the bytes cost at most {most:.1} times the time, each length at its dearest setting ({place})."
     );
-    let (most, place) = worst(
-        rows.iter()
-            .flat_map(|row| growth(row, positions_grow_with_it)),
-    );
-    let (any, any_place) = worst(rows.iter().flat_map(|row| growth(row, |_, _| true)));
+    let (most, place) = worst(rows.iter().flat_map(growth));
     println!(
-        "With the same settings they cost at most {most:.1} times the time where they have at most five times \
-         the positions that can be candidates at level 1 ({place}). Where they have more, or the shorter string \
-         has none, at most {any:.1} times ({any_place})."
+        "With the same settings they cost at most {most:.1} times the time ({place}): a string that is too short \
+         to be cut at a level is only hashed."
     );
 }
 
