@@ -19,19 +19,13 @@ use Rattle.message.specs.Words.{Ref, referenceWord}
 use Rattle.message.specs.Fields.{one, value, values, valuesTo, many, manyTo, only, text, textTo}
 use Rattle.message.specs.Messages.{Msg, openingQuery, nodeQuery, opening, composition, literal, noNode, headed, wordsThen, sizeOf, encode}
 use Rattle.message.proofs.Messages.{length-encode}
+use Rattle.message_writer.proofs.Writing.{length-text}
 use Rattle.protocol.specs.Lent.{Lent}
 use Rattle.protocol.specs.Nodes.{Entry, blockIn}
 use Rattle.protocol.specs.Sender.{childIds, composable, refsOf, referable, nodeReply, openingReply, replyTo}
 use Rattle.protocol.proofs.Cases.{chosen, same-message, no-message}
 
 -- How many words the longer fields have.
-length-text : (bytes : List ℕ) → length (textTo bytes) * 3 ≤ length bytes + 2
-unfolding textTo
-length-text [] = omega arith
-length-text (a ∷ []) = omega arith
-length-text (a ∷ b ∷ []) = omega arith
-length-text (a ∷ b ∷ c ∷ rest) = let h = length-text rest in omega (arith, h)
-
 length-references : (refs : List Ref) → length (manyTo referenceWord refs) ≡ length refs
 unfolding manyTo
 length-references [] = refl
