@@ -1,21 +1,17 @@
--- The first candidate of a stretch of positions that lie within h of each other.
--- `Low` is the candidate's comparison as one claim with no sides. A low position of the stretch has its least value, lies from t + h on,
--- where t is one past the last smaller value before the stretch, and has no smaller value within h after the stretch.
+-- The next candidate. `Low` is the candidate's comparison as one claim with no sides. A position p whose value m is below all from a on and
+-- not above the h after it is low unless a value before a is below m. The last of these, if it is within h of p, bars all positions from p on
+-- that are within h of it.
 use mathlib.Core.Bool.{Bool, true, false, _&&_, false≢true}
 use mathlib.Core.List.{List}
 use mathlib.Core.Path.{_≡_, refl, sym, subst}
 use Prim.Native.Nat.{ℕ, zero, suc, _+_, _-_, _≤_, _<_}
-use native.Mathlib.Decide.{decLe, decLt, ℕ-discrete}
+use native.Mathlib.Decide.{decLt, ℕ-discrete}
 use native.Mathlib.Omega.{arith}
 use lib.Dec.{leb}
 use lib.ListN.{length}
 use borrow.Author.Tests.{le-leb, leb-true}
 use Rattle.partition.specs.Cuts.{valueAt, lowest, candidate}
-use Rattle.partition.specs.Scans.{FirstBelow, AfterLastBelow, FirstLeast, FirstPassing}
-
--- The value at i is not greater than any within d.
-abbrev pub Low : (ℕ → ℕ) → ℕ → ℕ → Type 0
-Low v d i = (j : ℕ) → i ≤ j + d → j ≤ i + d → v i ≤ v j
+use Rattle.partition.specs.Scans.{Low, Floor, AfterLastBelow, FirstLow, FirstPassing, NextCandidate}
 
 both : (a b : Bool) → (a && b) ≡ true → (a ≡ true) × (b ≡ true)
 both true b e = (refl, e)
@@ -74,70 +70,96 @@ is-candidate w h s bytes i c =
 pub not-candidate : (w h s : ℕ) (bytes : List ℕ) (i : ℕ) → (Candidate w h s bytes i → ⊥) → candidate w h s bytes i ≡ false
 not-candidate w h s bytes i c = refuted (candidate w h s bytes i) (λ e. c (candidate-is w h s bytes i e))
 
--- A stretch, its first least value, and what the scans to both sides of it found.
-module _ (v : ℕ → ℕ) (h from to least m t p : ℕ) (near : to ≤ from + h + 1) (far : h ≤ from) (L : FirstLeast v from to least) (M : m ≡ v least)
-    (T : AfterLastBelow v m (least - h) from t) (P : FirstBelow v (m + 1) (t + h) to p) where
-  low-value : (j : ℕ) → from ≤ j → j < to → Low v h j → v j ≡ m
-  low-value j a b low = omega (arith, low least (omega arith) (omega arith), L .least j a b)
-
-  low-left : (j : ℕ) → from ≤ j → j < to → Low v h j → t + h ≤ j
-  low-left j a b low = at (decLe (t + h) j) (decLt (least - h) t)
+-- A position p whose value m is below all from a on and not above the h after it, and what lies before a.
+module _ (v : ℕ → ℕ) (h a end p m : ℕ) (far : h ≤ a) (F : FirstLow v h a end p m) (inside : p < end) where
+  low-if : ((j : ℕ) → p ≤ j + h → j < a → m ≤ v j) → Low v h p
+  low-if before j x y = at (decLt j a) (decLt j p)
     where
-      at : Dec (t + h ≤ j) → Dec (least - h < t) → t + h ≤ j
-      at (yes q) d = q
-      at (no q) (yes r) = omega (arith, low (t - 1) (omega arith) (omega arith), T .found r, low-value j a b low)
-      at (no q) (no r) = omega (arith, L .before j a (omega arith), low-value j a b low)
+      at : Dec (j < a) → Dec (j < p) → v p ≤ v j
+      at (yes q) d = omega (arith, before j x q)
+      at (no q) (yes r) = omega (arith, F .falls j (omega arith) r)
+      at (no q) (no r) = F .after inside j (omega arith) y
 
-  low-from : (j : ℕ) → from ≤ j → j < to → Low v h j → p ≤ j
-  low-from j a b low = at (decLe p j)
-    where
-      at : Dec (p ≤ j) → p ≤ j
-      at (yes q) = q
-      at (no q) = omega (arith, P .before j (low-left j a b low) (omega arith), low-value j a b low)
-
-  module _ (u : ℕ) (U : FirstBelow v m to (p + h + 1) u) where
-    low-none : u < p + h + 1 → (j : ℕ) → from ≤ j → j < to → Low v h j → ⊥
-    low-none k j a b low = omega (arith, low-from j a b low, low u (omega (arith, low-from j a b low)) (omega (arith, low-from j a b low)), U .found k, low-value j a b low)
-
-    low-here : p < to → p + h + 1 ≤ u → Low v h p
-    low-here inside k j a b = at (decLt j from) (decLt j to)
+  module _ (t : ℕ) (T : AfterLastBelow v m (p - h) a t) (near : p < t + h) where
+    not-below : (j : ℕ) → t ≤ j → j < t + h → m ≤ v j
+    not-below j x y = at (decLt j a) (decLt j p)
       where
-        least-there : v p ≤ m
-        least-there = omega (arith, P .found inside)
+        at : Dec (j < a) → Dec (j < p) → m ≤ v j
+        at (yes q) d = T .after j x q
+        at (no q) (yes r) = omega (arith, F .falls j (omega arith) r)
+        at (no q) (no r) = omega (arith, F .after inside j (omega arith) (omega arith))
 
-        at : Dec (j < from) → Dec (j < to) → v p ≤ v j
-        at (yes q) d = omega (arith, least-there, T .after j (omega arith) q)
-        at (no q) (yes r) = omega (arith, least-there, L .least j (omega arith) r)
-        at (no q) (no r) = omega (arith, least-there, U .before j (omega arith) (omega arith))
+    not-low : (j : ℕ) → a ≤ j → j < t + h → Low v h j → ⊥
+    not-low j x y low = at (decLt j p)
+      where
+        at : Dec (j < p) → ⊥
+        at (yes q) = F .barred j x q low
+        at (no q) = omega (arith, T .found (omega arith), not-below j (omega arith) y, low (t - 1) (omega arith) (omega arith))
 
--- The three answers of the search in a stretch.
-module _ (w h s : ℕ) (bytes : List ℕ) (from to least m t p : ℕ) (near : to ≤ from + h + 1) (far : h ≤ from) (inside : to + w + h ≤ length bytes + 1)
-    (L : FirstLeast (valueAt w s bytes) from to least) (M : m ≡ valueAt w s bytes least) (T : AfterLastBelow (valueAt w s bytes) m (least - h) from t)
-    (P : FirstBelow (valueAt w s bytes) (m + 1) (t + h) to p) where
-  pub passing-none : to ≤ p → FirstPassing (candidate w h s bytes) from to to
-  passing-none e =
+-- The positions from `from` up to a are no candidates, and the h before a have no value below f.
+pub record Searched (w h s : ℕ) (bytes : List ℕ) (from a f : ℕ) : Type 0 where
+  pub low : from ≤ a
+  pub none : (j : ℕ) → from ≤ j → j < a → candidate w h s bytes j ≡ false
+  pub floor : Floor (valueAt w s bytes) h f a
+
+pub searched-start : (w h s : ℕ) (bytes : List ℕ) (from f : ℕ) → Floor (valueAt w s bytes) h f from → Searched w h s bytes from from f
+searched-start w h s bytes from f F = record { low = omega arith; none = λ j a b. absurd (omega arith); floor = F }
+
+module _ (w h s : ℕ) (bytes : List ℕ) (from end : ℕ) (far : h ≤ from) (some : from < end) (within : end + w + h ≤ length bytes + 1) (a f : ℕ)
+    (S : Searched w h s bytes from a f) where
+  none-left : ((j : ℕ) → from ≤ j → j < end → candidate w h s bytes j ≡ false) → NextCandidate w h s bytes from end end 0
+  none-left none =
       record {
-        low = omega arith;
-        high = omega arith;
-        before = λ j a b. not-candidate w h s bytes j (λ c. omega (arith, low-from (valueAt w s bytes) h from to least m t p near far L M T P j a b (c .low)));
-        found = λ k. absurd (omega arith);
+        first = record { low = omega arith; high = omega arith; before = none; found = λ x. absurd (omega arith) };
+        value = λ x. absurd (omega arith);
       }
 
-  module _ (u : ℕ) (U : FirstBelow (valueAt w s bytes) m to (p + h + 1) u) where
-    pub passing-barred : u < p + h + 1 → FirstPassing (candidate w h s bytes) from to to
-    passing-barred k =
-        record {
-          low = omega arith;
-          high = omega arith;
-          before = λ j a b. not-candidate w h s bytes j (λ c. low-none (valueAt w s bytes) h from to least m t p near far L M T P u U k j a b (c .low));
-          found = λ k. absurd (omega arith);
-        }
+  pub next-none : end ≤ a → NextCandidate w h s bytes from end end 0
+  next-none l = none-left (λ j x y. S .none j x (omega arith))
 
-    pub passing-here : p < to → p + h + 1 ≤ u → FirstPassing (candidate w h s bytes) from to p
-    passing-here e k =
-        record {
-          low = omega arith;
-          high = omega arith;
-          before = λ j a b. not-candidate w h s bytes j (λ c. omega (arith, low-from (valueAt w s bytes) h from to least m t p near far L M T P j a (omega arith) (c .low)));
-          found = λ x. is-candidate w h s bytes p (record { left = omega arith; right = omega arith; low = low-here (valueAt w s bytes) h from to least m t p near far L M T P u U e k });
-        }
+  module _ (p m : ℕ) (F : FirstLow (valueAt w s bytes) h a end p m) where
+    none-before : (j : ℕ) → from ≤ j → j < p → candidate w h s bytes j ≡ false
+    none-before j x y = at (decLt j a)
+      where
+        at : Dec (j < a) → candidate w h s bytes j ≡ false
+        at (yes q) = S .none j x q
+        at (no q) = not-candidate w h s bytes j (λ c. F .barred j (omega arith) y (c .low))
+
+    pub next-past : end ≤ p → NextCandidate w h s bytes from end end 0
+    next-past l = none-left (λ j x y. none-before j x (omega arith))
+
+    module _ (inside : p < end) where
+      here : Low (valueAt w s bytes) h p → NextCandidate w h s bytes from end p m
+      here low =
+          record {
+            first =
+                record {
+                  low = omega arith;
+                  high = omega arith;
+                  before = none-before;
+                  found = λ x. is-candidate w h s bytes p (record { left = omega arith; right = omega arith; low = low });
+                };
+            value = λ x. F .value;
+          }
+
+      pub next-known : m ≤ f → NextCandidate w h s bytes from end p m
+      next-known l =
+          here (low-if (valueAt w s bytes) h a end p m (omega arith) F inside (λ j x y. omega (arith, S .floor .before j (omega arith) y)))
+
+      module _ (t : ℕ) (T : AfterLastBelow (valueAt w s bytes) m (p - h) a t) where
+        pub next-here : t + h ≤ p → NextCandidate w h s bytes from end p m
+        next-here l = here (low-if (valueAt w s bytes) h a end p m (omega arith) F inside (λ j x y. T .after j (omega arith) y))
+
+        -- On from the first position out of reach of the last smaller value.
+        pub searched-on : p < t + h → Searched w h s bytes from (t + h) m
+        searched-on l =
+            record {
+              low = omega arith;
+              none = λ j x y. at j x y (decLt j a);
+              floor = record { before = λ j x y. not-below (valueAt w s bytes) h a end p m (omega arith) F inside t T l j (omega arith) y };
+            }
+          where
+            at : (j : ℕ) → from ≤ j → j < t + h → Dec (j < a) → candidate w h s bytes j ≡ false
+            at j x y (yes q) = S .none j x q
+            at j x y (no q) =
+                not-candidate w h s bytes j (λ c. not-low (valueAt w s bytes) h a end p m (omega arith) F inside t T l j (omega arith) y (c .low))

@@ -1,5 +1,6 @@
 -- The laws. For callers: `Placed`, where cuts lie, and `Blocks`, the blocks between them.
 pub mod Reading
+pub mod Shifted
 pub mod Steps
 pub mod Candidates
 pub mod Search

@@ -2,7 +2,7 @@
 use mathlib.Core.List.{List, [], _∷_}
 use mathlib.Core.Path.{_≡_, sym, ap, _∙_}
 use Prim.Native.Nat.{ℕ, suc, _+_, _*_, _-_, _/_, _%_, _≤_, _<_, min}
-use native.Mathlib.Nat.{mod-mod, mod-le, mod-eq-of-lt, zero-mod, mul-add-mod-self-right}
+use native.Mathlib.Nat.{mod-mod, mod-eq-of-lt, zero-mod, mul-add-mod-self-right}
 use native.Mathlib.Decide.{decLe}
 use native.Mathlib.Numerals.{add-one}
 use native.Mathlib.Omega.{arith}
@@ -10,7 +10,7 @@ use lib.ListN.{length, getD, take, drop, length-drop, drop-of-length-le}
 use lib.Seq.{drop-cons, take-nil, take-all}
 use Rattle.partition.specs.Cuts.{numberFrom, windowAt, valueAt}
 
-step : (x b : ℕ) → (x % 65521 * 257 + b) % 65521 ≡ (x * 257 + b) % 65521
+pub step : (x b : ℕ) → (x % 65521 * 257 + b) % 65521 ≡ (x * 257 + b) % 65521
 step x b =
     let whole : x * 257 + b ≡ x / 65521 * 257 * 65521 + (x % 65521 * 257 + b) = omega arith in
     sym (ap (λ (y : ℕ). y % 65521) whole ∙ mul-add-mod-self-right (x / 65521 * 257) 65521 (x % 65521 * 257 + b))
@@ -40,10 +40,20 @@ read-none x bytes j to h k =
     let e : to - j ≡ 0 = omega arith in
     rw e (mod-eq-of-lt k)
 
--- A value is a remainder of 65,521.
-pub value-small : (w s : ℕ) (bytes : List ℕ) (i : ℕ) → valueAt w s bytes i < 65521
-unfolding valueAt windowAt
-value-small w s bytes i = omega (arith, mod-le (windowAt w bytes i) s)
+pub window-small : (w : ℕ) (bytes : List ℕ) (i : ℕ) → windowAt w bytes i < 65521
+unfolding windowAt
+window-small w bytes i = omega arith
+
+-- A window's value from its number.
+pub value-of : (w s : ℕ) (bytes : List ℕ) (i : ℕ) {x : ℕ} → x ≡ windowAt w bytes i → x % s ≡ valueAt w s bytes i
+unfolding valueAt
+value-of w s bytes i e = ap (λ (y : ℕ). y % s) e
+
+-- The bytes from i up to i + w are the window at i.
+pub window-here : (w : ℕ) (bytes : List ℕ) (i : ℕ) {x : ℕ} → x ≡ windowAt (i + w - i) bytes i → x ≡ windowAt w bytes i
+window-here w bytes i e =
+    let n : i + w - i ≡ w = omega arith in
+    rw n at e
 
 -- Past the end of the bytes there is nothing to read.
 pub value-past : (w s : ℕ) (bytes : List ℕ) (i : ℕ) → length bytes ≤ i → valueAt w s bytes i ≡ 0

@@ -1,19 +1,22 @@
 -- The cuts from a position on, and how the search goes through them: past positions that are no candidates, and from a cut to where the next may follow.
-use mathlib.Core.Bool.{Bool, true, false}
+use mathlib.Core.Bool.{Bool, true, false, _&&_}
 use mathlib.Core.List.{List, [], _∷_, _++_, append-assoc, append-nil}
-use mathlib.Core.Path.{_≡_, refl, sym, ap, _∙_}
+use mathlib.Core.Path.{_≡_, refl, sym, ap, _∙_, fun-ext}
 use Prim.Native.Nat.{ℕ, zero, suc, _+_, _-_, _≤_, _<_, max}
 use native.Mathlib.Decide.{decLe}
 use native.Mathlib.Nat.{zero-add, add-zero, suc-add, add-suc}
 use native.Mathlib.Numerals.{add-one}
 use native.Mathlib.Omega.{arith}
+use lib.Dec.{leb}
 use lib.ListN.{length, take, set, length-set}
 use lib.Seq.{take-suc-set, take-nil}
 use borrow.Author.Tests.{le-leb, lt-leb}
-use Rattle.partition.specs.Cuts.{candidate, consIf, passing, spaced, cutsOf}
+use Rattle.partition.specs.Cuts.{windowAt, valueAt, lowest, candidate, consIf, passing, spaced, cutsOf}
 use Rattle.partition.specs.Found.{Found}
-use Rattle.partition.specs.Scans.{FirstPassing}
-use Rattle.partition.proofs.Candidates.{not-candidate}
+use Rattle.partition.specs.Scans.{Floor, FirstPassing}
+use Rattle.partition.specs.Sliding.{Sized}
+use Rattle.partition.proofs.Reading.{window-small}
+use Rattle.partition.proofs.Candidates.{candidate-is, not-candidate}
 
 -- The cuts among the positions from a up to e, if one at a is far enough from the last.
 unfoldable pub after : (ℕ → Bool) → ℕ → ℕ → ℕ → List ℕ
@@ -184,3 +187,23 @@ module _ (w h s : ℕ) (bytes at : List ℕ) where
     where
       none : (x : ℕ) → a ≤ x → candidate w h s bytes x ≡ false
       none x k = not-candidate w h s bytes x (λ c. omega (arith, c .right))
+
+-- After a cut at p no value is below that of p, as far as the next cut may follow.
+pub floor-after : (w h s : ℕ) (bytes : List ℕ) (p m step : ℕ) → candidate w h s bytes p ≡ true → m ≡ valueAt w s bytes p → step ≡ max h 1
+    → Floor (valueAt w s bytes) h m (p + step)
+floor-after w h s bytes p m step c e l = record { before = λ j a b. omega (arith, candidate-is w h s bytes p c .low j (omega arith) (omega arith)) }
+
+-- A window of w bytes whose values are taken modulo s makes the same cuts.
+module _ (w s width leaving modulus : ℕ) (S : Sized w s width leaving modulus) (h : ℕ) (bytes : List ℕ) where
+  same-values : valueAt w modulus bytes ≡ valueAt w s bytes
+  unfolding valueAt
+  same-values = fun-ext (λ i. S .same (windowAt w bytes i) (window-small w bytes i))
+
+  same-cuts : cutsOf width h modulus bytes ≡ cutsOf w h s bytes
+  unfolding cutsOf candidate
+  same-cuts =
+      rw (S .wide)
+      (ap (λ (v : ℕ → ℕ). take 31 (spaced h 0 (passing (λ i. leb h i && (leb (i + w + h) (length bytes) && lowest v i h)) (length bytes + 1) 0))) same-values)
+
+  pub found-same : {n : ℕ} {at : List ℕ} → Found width h modulus bytes n at → Found w h s bytes n at
+  found-same F = record { cuts = F .cuts ∙ same-cuts; few = F .few; places = F .places }

@@ -3,7 +3,7 @@ use Prim.Native.Nat.{ℕ, _+_, _-_, _≤_, _<_}
 use mathlib.Core.Path.{_≡_, subst}
 use native.Mathlib.Decide.{decLt}
 use native.Mathlib.Omega.{arith}
-use Rattle.partition.specs.Scans.{FirstBelow, AfterLastBelow, FirstLeast}
+use Rattle.partition.specs.Scans.{Low, AfterLastBelow, FirstLow}
 
 -- What holds of the positions from `from` up to i, and of i, holds up to i + 1.
 one-more : (P : ℕ → Type 0) (from i : ℕ) → ((j : ℕ) → from ≤ j → j < i → P j) → P i → (j : ℕ) → from ≤ j → j < i + 1 → P j
@@ -14,49 +14,69 @@ one-more P from i all here j low high = at (decLt j i)
     at (no h) = subst P (let e : i ≡ j = omega arith in e) here
 
 module _ (v : ℕ → ℕ) (m from : ℕ) where
-  pub below-start : FirstBelow v m from from from
-  below-start = record { low = omega arith; high = λ h. h; before = λ j a b. omega arith; found = λ h. omega arith }
+  pub last-none : {to : ℕ} → to ≤ from → AfterLastBelow v m from to from
+  last-none l = record { low = omega arith; high = omega arith; after = λ j a b. omega arith; found = λ h. omega arith }
 
-  pub below-next : {j : ℕ} → FirstBelow v m from j j → m ≤ v j → FirstBelow v m from (j + 1) (j + 1)
-  below-next {j} r h =
-      record { low = omega arith; high = λ x. omega arith; before = one-more (λ k. m ≤ v k) from j (r .before) h; found = λ x. omega arith }
-
-  pub below-found : {j to : ℕ} → FirstBelow v m from j j → j < to → v j < m → FirstBelow v m from to j
-  below-found r l h = record { low = r .low; high = λ x. omega arith; before = r .before; found = λ x. h }
-
-  pub below-none : {j to : ℕ} → FirstBelow v m from j j → (from ≤ to → j ≤ to) → to ≤ j → FirstBelow v m from to j
-  below-none r l h = record { low = r .low; high = l; before = r .before; found = λ x. omega arith }
-
-  pub last-start : AfterLastBelow v m from from from
-  last-start = record { low = omega arith; high = omega arith; after = λ j a b. omega arith; found = λ h. omega arith }
-
-  pub last-here : {j r : ℕ} → AfterLastBelow v m from j r → v j < m → AfterLastBelow v m from (j + 1) (j + 1)
-  last-here {j} r h =
-      record { low = omega arith; high = omega arith; after = λ k a b. omega arith; found = λ x. subst (λ (k : ℕ). v k < m) (let e : j ≡ j + 1 - 1 = omega arith in e) h }
+  pub last-here : {j r : ℕ} → AfterLastBelow v m from j r → from ≤ j → v j < m → AfterLastBelow v m from (j + 1) (j + 1)
+  last-here {j} r l h =
+      let e : j ≡ j + 1 - 1 = omega arith in
+      record { low = omega arith; high = omega arith; after = λ k a b. omega arith; found = λ x. subst (λ (k : ℕ). v k < m) e h }
 
   pub last-not : {j r : ℕ} → AfterLastBelow v m from j r → m ≤ v j → AfterLastBelow v m from (j + 1) r
   last-not {j} {r = last} r h =
       record { low = r .low; high = omega arith; after = one-more (λ k. m ≤ v k) last j (r .after) h; found = r .found }
 
-module _ (v : ℕ → ℕ) (from : ℕ) where
-  pub least-start : FirstLeast v from (from + 1) from
-  least-start =
+-- The value at p is below all before it and not above any after it, as far as j, which is at most h further. No position before p is low.
+pub record Falling (v : ℕ → ℕ) (h from p j : ℕ) : Type 0 where
+  pub low : from ≤ p
+  pub here : p ≤ j
+  pub near : j ≤ p + h
+  pub barred : (k : ℕ) → from ≤ k → k < p → Low v h k → ⊥
+  pub falls : (k : ℕ) → from ≤ k → k < p → v p < v k
+  pub after : (k : ℕ) → p ≤ k → k < j + 1 → v p ≤ v k
+
+module _ (v : ℕ → ℕ) (h from : ℕ) where
+  pub falling-start : Falling v h from from from
+  falling-start =
       record {
         low = omega arith;
-        high = omega arith;
-        least = one-more (λ k. v from ≤ v k) from from (λ j a b. omega arith) (omega arith);
-        before = λ j a b. omega arith;
+        here = omega arith;
+        near = omega arith;
+        barred = λ k a b low. omega arith;
+        falls = λ k a b. omega arith;
+        after = one-more (λ k. v from ≤ v k) from from (λ k a b. omega arith) (omega arith);
       }
 
-  pub least-here : {j r : ℕ} → FirstLeast v from j r → v j < v r → FirstLeast v from (j + 1) j
-  least-here {j} r h =
+  pub falling-on : {p j : ℕ} → Falling v h from p j → j < p + h → v p ≤ v (j + 1) → Falling v h from p (j + 1)
+  falling-on {p} {j} r l e =
+      record { low = r .low; here = omega arith; near = omega arith; barred = r .barred; falls = r .falls; after = one-more (λ k. v p ≤ v k) p (j + 1) (r .after) e }
+
+  -- A smaller value within h bars all positions since p.
+  pub falling-to : {p j : ℕ} → Falling v h from p j → j < p + h → v (j + 1) < v p → Falling v h from (j + 1) (j + 1)
+  falling-to {p} {j} r l e =
       record {
         low = omega arith;
-        high = omega arith;
-        least = one-more (λ k. v j ≤ v k) from j (λ k a b. omega (arith, r .least k a b)) (omega arith);
-        before = λ k a b. omega (arith, r .least k a b);
+        here = omega arith;
+        near = omega arith;
+        barred = λ k a b low. not-low k a b low (decLt k p);
+        falls = λ k a b. below k a b (decLt k p);
+        after = one-more (λ k. v (j + 1) ≤ v k) (j + 1) (j + 1) (λ k a b. omega arith) (omega arith);
       }
+    where
+      not-low : (k : ℕ) → from ≤ k → k < j + 1 → Low v h k → Dec (k < p) → ⊥
+      not-low k a b low (yes q) = r .barred k a q low
+      not-low k a b low (no q) = omega (arith, low (j + 1) (omega arith) (omega arith), r .after k (omega arith) b)
 
-  pub least-not : {j r : ℕ} → FirstLeast v from j r → v r ≤ v j → FirstLeast v from (j + 1) r
-  least-not {j} {r = least} r h =
-      record { low = r .low; high = omega arith; least = one-more (λ k. v least ≤ v k) from j (r .least) h; before = r .before }
+      below : (k : ℕ) → from ≤ k → k < j + 1 → Dec (k < p) → v (j + 1) < v k
+      below k a b (yes q) = omega (arith, r .falls k a q)
+      below k a b (no q) = omega (arith, r .after k (omega arith) b)
+
+  module _ (end : ℕ) {p j m : ℕ} (r : Falling v h from p j) (e : m ≡ v p) where
+    pub low-reached : p + h ≤ j → FirstLow v h from end p m
+    low-reached l = record { value = e; low = r .low; barred = r .barred; falls = r .falls; after = λ i k a b. r .after k a (omega arith) }
+
+    pub low-zero : m ≡ 0 → FirstLow v h from end p m
+    low-zero z = record { value = e; low = r .low; barred = r .barred; falls = r .falls; after = λ i k a b. omega arith }
+
+    pub low-past : end ≤ p → FirstLow v h from end p m
+    low-past l = record { value = e; low = r .low; barred = r .barred; falls = r .falls; after = λ i k a b. omega arith }

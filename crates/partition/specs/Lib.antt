@@ -2,5 +2,6 @@
 pub mod Cuts
 pub mod Blocks
 pub mod Found
+pub mod Sliding
 pub mod Scans
 pub mod Spread

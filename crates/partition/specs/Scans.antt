@@ -1,28 +1,32 @@
--- What the scans of the search promise, over any values v : ℕ → ℕ. No public contract cites these.
+-- What the search and its scans promise, the scans over any values v : ℕ → ℕ. No public contract cites these.
 use mathlib.Core.Bool.{Bool, true, false}
+use mathlib.Core.List.{List}
 use mathlib.Core.Path.{_≡_}
-use Prim.Native.Nat.{ℕ, _-_, _≤_, _<_}
+use Prim.Native.Nat.{ℕ, _+_, _-_, _≤_, _<_, max}
+use Rattle.partition.specs.Cuts.{valueAt, candidate}
 
--- r is the first of the positions from `from` up to `to` with a value below m, or where the positions end.
-pub record FirstBelow (v : ℕ → ℕ) (m from to r : ℕ) : Type 0 where
-  pub low : from ≤ r
-  pub high : from ≤ to → r ≤ to
-  pub before : (j : ℕ) → from ≤ j → j < r → m ≤ v j
-  pub found : r < to → v r < m
+-- The value at i is not greater than any within d.
+abbrev pub Low : (ℕ → ℕ) → ℕ → ℕ → Type 0
+Low v d i = (j : ℕ) → i ≤ j + d → j ≤ i + d → v i ≤ v j
+
+-- No value of the h positions before a is below m.
+pub record Floor (v : ℕ → ℕ) (h m a : ℕ) : Type 0 where
+  pub before : (j : ℕ) → a ≤ j + h → j < a → m ≤ v j
 
 -- r is one past the last of the positions from `from` up to `to` with a value below m, or `from` if there is none.
 pub record AfterLastBelow (v : ℕ → ℕ) (m from to r : ℕ) : Type 0 where
   pub low : from ≤ r
-  pub high : r ≤ to
+  pub high : r ≤ max from to
   pub after : (j : ℕ) → r ≤ j → j < to → m ≤ v j
   pub found : from < r → v (r - 1) < m
 
--- r is the first of the positions from `from` up to `to` with the least value there.
-pub record FirstLeast (v : ℕ → ℕ) (from to r : ℕ) : Type 0 where
-  pub low : from ≤ r
-  pub high : r < to
-  pub least : (j : ℕ) → from ≤ j → j < to → v r ≤ v j
-  pub before : (j : ℕ) → from ≤ j → j < r → v r < v j
+-- The value m at p is below all from `from` up to p, and if p lies before `end` it is not above any of the h after p. No position before p is low.
+pub record FirstLow (v : ℕ → ℕ) (h from end p m : ℕ) : Type 0 where
+  pub value : m ≡ v p
+  pub low : from ≤ p
+  pub barred : (j : ℕ) → from ≤ j → j < p → Low v h j → ⊥
+  pub falls : (j : ℕ) → from ≤ j → j < p → v p < v j
+  pub after : p < end → (j : ℕ) → p ≤ j → j ≤ p + h → v p ≤ v j
 
 -- r is the first of the positions from `from` up to `to` that passes the test, or `to` if none does.
 pub record FirstPassing (test : ℕ → Bool) (from to r : ℕ) : Type 0 where
@@ -30,3 +34,8 @@ pub record FirstPassing (test : ℕ → Bool) (from to r : ℕ) : Type 0 where
   pub high : r ≤ to
   pub before : (j : ℕ) → from ≤ j → j < r → test j ≡ false
   pub found : r < to → test r ≡ true
+
+-- p is the first candidate from `from` up to `end` and m its value, or p is `end`.
+pub record NextCandidate (w h s : ℕ) (bytes : List ℕ) (from end p m : ℕ) : Type 0 where
+  pub first : FirstPassing (candidate w h s bytes) from end p
+  pub value : p < end → m ≡ valueAt w s bytes p

@@ -4,6 +4,7 @@ ghost use Rattle.partition.specs.Cuts.{valueAt};
 ghost use Rattle.partition.specs.Found.{Found};
 
 mod scan;
+mod sliding;
 mod window;
 
 // The cuts of one block, from the left: the first n numbers of `at`.
@@ -21,31 +22,36 @@ pub fn window_value(bytes: &[u8], w: usize, s: u64, i: usize) -> u64
     }
     let to = window::nearer(i, w, bytes.len());
     let x = window::number(bytes, i, to);
-    window::modulo(x, s)
+    window::modulo(x as u64, s)
 }
 
-// The cuts of a block, for any w, h and s. Each turn looks at a stretch of positions that lie within h of each other, so that it has one cut at most.
+// The cuts of a block, for any w, h and s.
 pub fn find_cuts(bytes: &[u8], w: usize, h: usize, s: u64) -> Cuts
     ensures { λ r. ⌜ Found w h s (now (bytes .entry)) (r .n) (r .at) ⌝ }
 {
-    let end = scan::range_end(bytes.len(), w, h);
-    let step = scan::step(h);
     let mut at = [0usize; 32];
     let mut n: usize = 0;
+    let end = scan::range_end(bytes.len(), w, h);
+    if end <= h {
+        return Cuts { n, at };
+    }
+    let window = sliding::window_of(w, s);
+    let step = scan::step(h);
     let mut a = h;
+    let mut floor: u32 = 0;
     while a < end {
-        let to = window::nearer(a, step, end);
-        let p = scan::first_candidate(bytes, w, h, s, a, to);
-        if p < to {
-            at[n] = p;
-            n += 1;
-            if n == 31 {
-                return Cuts { n, at };
-            }
-            a = p + step;
-        } else {
-            a = to;
+        let cut = scan::next_candidate(bytes, window, h, floor, a, end);
+        let p = cut.at;
+        if end <= p {
+            return Cuts { n, at };
         }
+        at[n] = p;
+        n += 1;
+        if n == 31 {
+            return Cuts { n, at };
+        }
+        floor = cut.value;
+        a = p + step;
     }
     Cuts { n, at }
 }

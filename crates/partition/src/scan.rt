@@ -1,10 +1,19 @@
-// Scans over window values, and the first candidate of a stretch of positions found by four of them.
+// Scans over window values, and the next candidate found by them.
 ghost use mathlib.Core.Path.{_≡_};
 ghost use Prim.Native.Nat.{_+_, _-_, _^_, _≤_, _<_, max};
 ghost use lib.ListN.{length};
-ghost use Rattle.partition.specs.Cuts.{valueAt, candidate};
-ghost use Rattle.partition.specs.Scans.{FirstBelow, AfterLastBelow, FirstLeast, FirstPassing};
-use super::window_value;
+ghost use Rattle.partition.specs.Cuts.{valueAt};
+ghost use Rattle.partition.specs.Scans.{AfterLastBelow, FirstLow, Floor, NextCandidate};
+ghost use Rattle.partition.specs.Sliding.{Slides};
+use super::sliding;
+use super::sliding::Window;
+use super::window;
+
+// A position and the value there.
+pub struct Place {
+    pub at: usize,
+    pub value: u32,
+}
 
 // One past the last position of n bytes where a cut may lie, or 0 if there is none.
 pub fn range_end(n: usize, w: usize, h: usize) -> usize
@@ -27,79 +36,94 @@ pub fn step(h: usize) -> usize
     if h == 0 { 1 } else { h }
 }
 
-// The first of the positions from `from` up to `to` with a value below m, or where the positions end.
-pub fn first_below(bytes: &[u8], w: usize, s: u64, m: u64, from: usize, to: usize) -> usize
-    ensures { λ r. ⌜ FirstBelow (valueAt w s (now (bytes .entry))) m from to r ⌝ }
-{
-    let mut j = from;
-    while j < to {
-        if window_value(bytes, w, s, j) < m {
-            return j;
-        }
-        j += 1;
-    }
-    j
-}
-
 // One past the last of the positions from `from` up to `to` with a value below m, or `from` if there is none.
-pub fn after_last_below(bytes: &[u8], w: usize, s: u64, m: u64, from: usize, to: usize) -> usize
-    requires { ⌜ from ≤ to ⌝ }
-    ensures { λ r. ⌜ AfterLastBelow (valueAt w s (now (bytes .entry))) m from to r ⌝ }
+fn after_last_below(bytes: &[u8], window: Window, m: u32, from: usize, to: usize) -> usize
+    requires { ⌜ Slides (window .width) (window .leaving) (window .modulus) ⌝ }
+    requires { ⌜ to + window .width ≤ length (now bytes) ⌝ }
+    ensures { λ r. ⌜ AfterLastBelow (valueAt (window .width) (window .modulus) (now (bytes .entry))) m from to r ⌝ }
 {
+    if to <= from {
+        return from;
+    }
+    let mut x = window::number(bytes, from, from + window.width);
     let mut r = from;
     let mut j = from;
     while j < to {
-        let x = window_value(bytes, w, s, j);
+        let value = x % window.modulus;
+        x = sliding::next(bytes, window, x, j);
         j += 1;
-        if x < m {
+        if value < m {
             r = j;
         }
     }
     r
 }
 
-// The first of the positions from `from` up to `to` with the least value there.
-pub fn first_least(bytes: &[u8], w: usize, s: u64, from: usize, to: usize) -> usize
-    requires { ⌜ from < to ⌝ }
-    ensures { λ r. ⌜ FirstLeast (valueAt w s (now (bytes .entry))) from to r ⌝ }
+// The first position from `from` on whose value is below all from there up to it and not above any of the h after it, or one
+// at `end` or past it where there is none before `end`. Where a smaller value follows within h, all before it are no candidates.
+fn first_low(bytes: &[u8], window: Window, h: usize, from: usize, end: usize) -> Place
+    requires { ⌜ Slides (window .width) (window .leaving) (window .modulus) ⌝ }
+    requires { ⌜ from < end ⌝ }
+    requires { ⌜ end + window .width + h ≤ length (now bytes) + 1 ⌝ }
+    ensures { λ r. ⌜ FirstLow (valueAt (window .width) (window .modulus) (now (bytes .entry))) h from end (r .at) (r .value) ⌝ }
 {
-    let mut m = window_value(bytes, w, s, from);
-    let mut r = from;
-    let mut j = from + 1;
-    while j < to {
-        let x = window_value(bytes, w, s, j);
-        let here = j;
+    let mut x = window::number(bytes, from, from + window.width);
+    let mut value = x % window.modulus;
+    let mut at = from;
+    let mut j = from;
+    while j < at + h {
+        // No value is below 0.
+        if value == 0 {
+            return Place { at, value };
+        }
+        x = sliding::next(bytes, window, x, j);
+        let next = x % window.modulus;
         j += 1;
-        if x < m {
-            m = x;
-            r = here;
+        if next < value {
+            at = j;
+            value = next;
+            if end <= at {
+                return Place { at, value };
+            }
         }
     }
-    r
+    Place { at, value }
 }
 
-// The first candidate of the positions from `from` up to `to`, which lie within h of each other, or `to` if there is none.
-// A candidate there has the stretch's least value m. The last smaller value before the stretch says where candidates begin,
-// the first smaller one after it whether the first of them is one.
-pub fn first_candidate(bytes: &[u8], w: usize, h: usize, s: u64, from: usize, to: usize) -> usize
+// The first candidate of the positions from `from` up to `end` and its value, or `end` if there is none. No value of the h
+// positions before `from` is below `floor`.
+pub fn next_candidate(
+    bytes: &[u8],
+    window: Window,
+    h: usize,
+    floor: u32,
+    from: usize,
+    end: usize,
+) -> Place
+    requires { ⌜ Slides (window .width) (window .leaving) (window .modulus) ⌝ }
+    requires { ⌜ Floor (valueAt (window .width) (window .modulus) (now bytes)) h floor from ⌝ }
     requires { ⌜ h ≤ from ⌝ }
-    requires { ⌜ from < to ⌝ }
-    requires { ⌜ to ≤ from + h + 1 ⌝ }
-    requires { ⌜ to + w + h ≤ length (now bytes) + 1 ⌝ }
-    ensures { λ r. ⌜ FirstPassing (candidate w h s (now (bytes .entry))) from to r ⌝ }
+    requires { ⌜ from < end ⌝ }
+    requires { ⌜ end + window .width + h ≤ length (now bytes) + 1 ⌝ }
+    ensures { λ r. ⌜ NextCandidate (window .width) h (window .modulus) (now (bytes .entry)) from end (r .at) (r .value) ⌝ }
 {
-    let least = first_least(bytes, w, s, from, to);
-    let m = window_value(bytes, w, s, least);
-    let above = m + 1;
-    let t = after_last_below(bytes, w, s, m, least - h, from);
-    let p = first_below(bytes, w, s, above, t + h, to);
-    if to <= p {
-        return to;
+    let mut a = from;
+    let mut known = floor;
+    while a < end {
+        let low = first_low(bytes, window, h, a, end);
+        let p = low.at;
+        if end <= p {
+            return Place { at: end, value: 0 };
+        }
+        if low.value <= known {
+            return low;
+        }
+        let t = after_last_below(bytes, window, low.value, p - h, a);
+        if t + h <= p {
+            return low;
+        }
+        known = low.value;
+        a = t + h;
     }
-    let edge = p + h + 1;
-    let u = first_below(bytes, w, s, m, to, edge);
-    if u < edge {
-        return to;
-    }
-    p
+    Place { at: end, value: 0 }
 }

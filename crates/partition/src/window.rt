@@ -20,15 +20,15 @@ pub fn nearer(i: usize, many: usize, end: usize) -> usize
 }
 
 // The bytes from `from` up to `to`, as a base-257 number modulo 65,521.
-pub fn number(bytes: &[u8], from: usize, to: usize) -> u64
+pub fn number(bytes: &[u8], from: usize, to: usize) -> u32
     requires { ⌜ from ≤ to ⌝ }
     requires { ⌜ to ≤ length (now bytes) ⌝ }
     ensures { λ r. ⌜ r ≡ windowAt (to - from) (now (bytes .entry)) from ⌝ }
 {
-    let mut x: u64 = 0;
+    let mut x: u32 = 0;
     let mut j = from;
     while j < to {
-        x = (x * 257 + bytes[j] as u64) % 65521;
+        x = (x * 257 + bytes[j] as u32) % 65521;
         j += 1;
     }
     x

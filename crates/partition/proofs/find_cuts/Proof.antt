@@ -1,32 +1,45 @@
--- `find_cuts` meets its contract. The invariant: the cuts found, followed by those from a on, are all cuts.
+-- `find_cuts` meets its contract. The invariant: the cuts found, followed by those from a on, are all cuts, and the h positions before a have
+-- no value below `floor`.
 use borrow.Author.Needs.{needs}
 use mathlib.Core.Path.{refl}
 use Prim.Native.Nat.{_-_}
 use native.Mathlib.Omega.{arith}
-use Rattle.partition.proofs.Search.{Going, going-first, going-past, going-on, found-full, found-all}
+use Rattle.partition.specs.Cuts.{valueAt}
+use Rattle.partition.specs.Scans.{Floor}
+use Rattle.partition.proofs.Search.{Going, going-first, going-past, going-on, found-full, found-all, found-same, floor-after}
 use Rattle.partition.proofs.find_cuts.Statement.{statement}
 use Rattle.partition.proofs.find_cuts.Tie as tie
 
 abbrev Inv-loop : tie.InvT-loop
-Inv-loop bytes w h s end step at₀ n₀ a₀ at n a = Going w h s bytes at n a
+Inv-loop bytes w h s at₀ n₀ end window step a₀ floor₀ at n a floor =
+    Going (window .width) h (window .modulus) bytes at n a × Floor (valueAt (window .width) (window .modulus) bytes) h floor a
 
 abbrev μ-loop : tie.MeasureT-loop
-μ-loop bytes w h s end step at₀ n₀ a₀ at n a = end - a
+μ-loop bytes w h s at₀ n₀ end window step a₀ floor₀ at n a floor = end - a
 
 range-end-requires : tie.Need-range-end-requires Inv-loop μ-loop
 range-end-requires c κs = search needs
+
+returns : tie.Need-returns Inv-loop μ-loop
+returns c = found-all _ _ _ _ _ _ _ (going-first _ _ _ _ _ refl) (omega arith)
+
+window-of-requires : tie.Need-window-of-requires Inv-loop μ-loop
+window-of-requires c κs = search needs
 
 step-requires : tie.Need-step-requires Inv-loop μ-loop
 step-requires c κs = search needs
 
 loop-holds : tie.Need-loop-holds Inv-loop μ-loop
-loop-holds c = going-first _ _ _ _ _ refl
+loop-holds c = (going-first _ _ _ _ _ refl, record { before = λ j a b. omega arith })
 
-nearer-requires : tie.Need-nearer-requires Inv-loop μ-loop
-nearer-requires c κs = search needs
+next-candidate-requires : tie.Need-next-candidate-requires Inv-loop μ-loop
+next-candidate-requires c κs =
+    (c .before .before .before .window-of .ensures .slides, (c .before .loop .inv .1, omega arith))
 
-first-candidate-requires : tie.Need-first-candidate-requires Inv-loop μ-loop
-first-candidate-requires c κs = search needs
+returns-2 : tie.Need-returns-2 Inv-loop μ-loop
+returns-2 c =
+    let past = going-past _ _ _ _ _ _ _ _ _ (c .before .before .before .loop .inv .0) (c .before .next-candidate .ensures .first) (c .if2 .taken) in
+    found-same _ _ _ _ _ (c .before .before .before .before .before .window-of .ensures) _ _ (found-all _ _ _ _ _ _ _ past (omega arith))
 
 mul-at : tie.Need-mul-at Inv-loop μ-loop
 mul-at c = search needs
@@ -37,14 +50,15 @@ array-write-at c = search needs
 add-n : tie.Need-add-n Inv-loop μ-loop
 add-n c = search needs
 
-returns : tie.Need-returns Inv-loop μ-loop
-returns c =
-    found-full _ _ _ _ _ _ _ _ _ (c .before .before .before .before .before .loop .inv)
-    (c .before .before .first-candidate .ensures)
+returns-3 : tie.Need-returns-3 Inv-loop μ-loop
+returns-3 c =
+    found-same _ _ _ _ _ (c .before .before .before .before .before .before .window-of .ensures) _ _
+    (found-full _ _ _ _ _ _ _ _ _ (c .before .before .before .before .loop .inv .0)
+    (c .before .before .next-candidate .ensures .first)
     _
-    (c .before .before .before .before .before .before .step .ensures)
+    (c .before .before .before .before .before .step .ensures)
     (omega arith)
-    (c .before .if1 .taken) (c .if2 .taken)
+    (c .before .if2 .left) (c .if3 .taken))
 
 add-a : tie.Need-add-a Inv-loop μ-loop
 add-a c = search needs
@@ -54,24 +68,15 @@ loop-less c = search needs
 
 loop-again : tie.Need-loop-again Inv-loop μ-loop
 loop-again c =
-    going-on _ _ _ _ _ _ _ _ _ (c .before .before .before .before .before .loop .inv)
-    (c .before .before .first-candidate .ensures)
-    _
-    (c .before .before .before .before .before .before .step .ensures)
-    (omega arith)
-    (c .before .if1 .taken) (c .if2 .left)
+    let next = c .before .before .next-candidate .ensures in
+    let step = c .before .before .before .before .before .step .ensures in (
+      going-on _ _ _ _ _ _ _ _ _ (c .before .before .before .before .loop .inv .0) (next .first) _ step (omega arith) (c .before .if2 .left) (c .if3 .left),
+      floor-after _ _ _ _ _ _ _ (next .first .found (c .before .if2 .left)) (next .value (c .before .if2 .left)) step,
+    )
 
-loop-less-2 : tie.Need-loop-less-2 Inv-loop μ-loop
-loop-less-2 c = search needs
-
-loop-again-2 : tie.Need-loop-again-2 Inv-loop μ-loop
-loop-again-2 c =
-    going-past _ _ _ _ _ _ _ _ _ (c .before .before .before .before .loop .inv)
-    (c .before .first-candidate .ensures)
-    (c .if1 .left)
-
-returns-2 : tie.Need-returns-2 Inv-loop μ-loop
-returns-2 c = found-all _ _ _ _ _ _ _ (c .before .loop .inv) (omega arith)
+returns-4 : tie.Need-returns-4 Inv-loop μ-loop
+returns-4 c =
+    found-same _ _ _ _ _ (c .before .before .before .window-of .ensures) _ _ (found-all _ _ _ _ _ _ _ (c .before .loop .inv .0) (omega arith))
 
 pub find-cuts-spec : {M : Type 1} → statement M
 find-cuts-spec =
@@ -80,17 +85,17 @@ find-cuts-spec =
     Inv-loop
     μ-loop
     range-end-requires
+    returns
+    window-of-requires
     step-requires
     loop-holds
-    nearer-requires
-    first-candidate-requires
+    next-candidate-requires
+    returns-2
     mul-at
     array-write-at
     add-n
-    returns
+    returns-3
     add-a
     loop-less
     loop-again
-    loop-less-2
-    loop-again-2
-    returns-2)
+    returns-4)

@@ -17,6 +17,9 @@ nearer-requires c κs = search needs
 number-requires : tie.Need-number-requires
 number-requires c κs = search needs
 
+cast-modulo : tie.Need-cast-modulo
+cast-modulo c = search needs
+
 modulo-requires : tie.Need-modulo-requires
 modulo-requires c κs = search needs
 
@@ -28,4 +31,4 @@ returns-2 c =
 
 pub window-value-spec : {M : Type 1} → statement M
 window-value-spec =
-    tie.close (tie.spec returns nearer-requires number-requires modulo-requires returns-2)
+    tie.close (tie.spec returns nearer-requires number-requires cast-modulo modulo-requires returns-2)

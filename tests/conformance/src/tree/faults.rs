@@ -45,6 +45,8 @@ const MOST_NOMINAL_REFUSED: u8 = 35;
 const STRING_BEFORE_SETTINGS: u8 = 36;
 const TABLE_BEFORE_STRING: u8 = 37;
 const FULL_STRETCHES_ONLY: u8 = 38;
+const ONE_IS_LEAST: u8 = 39;
+const NOTHING_BEFORE_THE_START: u8 = 40;
 
 /// What the recursion carries.
 struct Cutting<'a> {
@@ -78,16 +80,24 @@ impl Cutting<'_> {
         (number % 65_521) as u64 % s
     }
 
-    /// Whether the value at i is least, as far as there are values.
-    fn is_candidate(&self, values: &[u64], i: usize, h: usize) -> bool {
+    /// Whether the value at i is least, as far as there are values. Since the last cut the next may come from `start` on.
+    fn is_candidate(&self, values: &[u64], i: usize, h: usize, start: usize) -> bool {
         let near = if self.has(NEARER_NEIGHBOURS) {
             h - 1
         } else {
             h
         };
         let own = values[i];
+        if self.has(ONE_IS_LEAST) && own == 1 {
+            return true;
+        }
+        let first = if self.has(NOTHING_BEFORE_THE_START) {
+            start.max(i - near)
+        } else {
+            i - near
+        };
         let after = &values[i + 1..(i + near + 1).min(values.len())];
-        values[i - near..i]
+        values[first..i]
             .iter()
             .all(|&v| own < v || own == v && !self.has(SMALLER_THAN_BEFORE))
             && after
@@ -124,8 +134,8 @@ impl Cutting<'_> {
             if cuts.len() == most {
                 break;
             }
-            let spaced = cuts.last().map_or(true, |last| i >= last + spacing);
-            if spaced && self.is_candidate(values, i, h) {
+            let start = cuts.last().map_or(h, |last| last + spacing);
+            if i >= start && self.is_candidate(values, i, h, start) {
                 cuts.push(i);
             }
         }
@@ -304,7 +314,7 @@ fn every_fault_is_found() {
         TABLE_ONE_SHORTER STRING_ONE_LONGER STRING_ONE_SHORTER PAST_THE_TABLE BEFORE_THE_TABLE
         STRING_CHANGED WHOLE_ENTRIES_CLEARED ZEROED_AT_7 LOW_BYTE_FIRST LOW_32_BITS NO_LONE_CHILD
         WINDOW_12_REFUSED LEAST_NOMINAL_REFUSED MOST_NOMINAL_REFUSED STRING_BEFORE_SETTINGS
-        TABLE_BEFORE_STRING FULL_STRETCHES_ONLY
+        TABLE_BEFORE_STRING FULL_STRETCHES_ONLY ONE_IS_LEAST NOTHING_BEFORE_THE_START
     };
     for (name, function) in functions {
         match run(SEED, count(), function) {

@@ -1,25 +1,39 @@
--- `after_last_below` meets its contract. The invariant is its own record for the positions passed.
+-- `after_last_below` meets its contract. The invariant is its own record for the positions passed, and x is the number of the window at j.
 use borrow.Author.Needs.{needs}
 use mathlib.Core.Path.{_≡_}
 use Prim.Native.Nat.{_-_, _≤_}
 use native.Mathlib.Omega.{arith}
-use Rattle.partition.specs.Cuts.{valueAt}
+use Rattle.partition.specs.Cuts.{windowAt, valueAt}
 use Rattle.partition.specs.Scans.{AfterLastBelow}
-use Rattle.partition.proofs.Steps.{last-start, last-here, last-not}
+use Rattle.partition.proofs.Reading.{value-of, window-here}
+use Rattle.partition.proofs.Steps.{last-none, last-here, last-not}
 use Rattle.partition.proofs.scan.after_last_below.Statement.{statement}
 use Rattle.partition.proofs.scan.after_last_below.Tie as tie
 
 abbrev Inv-loop : tie.InvT-loop
-Inv-loop bytes w s m from to r₀ j₀ r j = AfterLastBelow (valueAt w s bytes) m from j r × (j ≤ to)
+Inv-loop bytes window m from to x₀ r₀ j₀ x r j =
+    AfterLastBelow (valueAt (window .width) (window .modulus) bytes) m from j r × (from ≤ j) × (j ≤ to) × (x ≡ windowAt (window .width) bytes j)
 
 abbrev μ-loop : tie.MeasureT-loop
-μ-loop bytes w s m from to r₀ j₀ r j = to - j
+μ-loop bytes window m from to x₀ r₀ j₀ x r j = to - j
+
+returns : tie.Need-returns Inv-loop μ-loop
+returns c = last-none _ _ _ (c .if1 .taken)
+
+add-number : tie.Need-add-number Inv-loop μ-loop
+add-number c = search needs
+
+number-requires : tie.Need-number-requires Inv-loop μ-loop
+number-requires c κs = search needs
 
 loop-holds : tie.Need-loop-holds Inv-loop μ-loop
-loop-holds c = (last-start _ _ _, omega arith)
+loop-holds c = (last-none _ _ _ (omega arith), omega arith, omega arith, window-here _ _ _ (c .number .ensures))
 
-window-value-requires : tie.Need-window-value-requires Inv-loop μ-loop
-window-value-requires c κs = search needs
+rem-value : tie.Need-rem-value Inv-loop μ-loop
+rem-value c = search needs
+
+next-requires : tie.Need-next-requires Inv-loop μ-loop
+next-requires c κs = search needs
 
 add-j : tie.Need-add-j Inv-loop μ-loop
 add-j c = search needs
@@ -28,17 +42,23 @@ loop-less : tie.Need-loop-less Inv-loop μ-loop
 loop-less c = search needs
 
 loop-again : tie.Need-loop-again Inv-loop μ-loop
-loop-again c = (last-here _ _ _ (c .before .before .before .loop .inv .0) (omega arith), omega arith)
+loop-again c =
+    let s = c .before .before .before .before .loop in
+    let a = c .before .before .before .before .before .before .before .before .before .args in
+    (last-here _ _ _ (s .inv .0) (s .inv .1) (omega (arith, value-of _ (a .window .modulus) _ _ (s .inv .3))), omega arith, omega arith, c .before .next .ensures)
 
 loop-less-2 : tie.Need-loop-less-2 Inv-loop μ-loop
 loop-less-2 c = search needs
 
 loop-again-2 : tie.Need-loop-again-2 Inv-loop μ-loop
-loop-again-2 c = (last-not _ _ _ (c .before .before .before .loop .inv .0) (omega arith), omega arith)
+loop-again-2 c =
+    let s = c .before .before .before .before .loop in
+    let a = c .before .before .before .before .before .before .before .before .before .args in
+    (last-not _ _ _ (s .inv .0) (omega (arith, value-of _ (a .window .modulus) _ _ (s .inv .3))), omega arith, omega arith, c .before .next .ensures)
 
-returns : tie.Need-returns Inv-loop μ-loop
-returns c =
-    let e : c .before .loop .j ≡ c .before .before .before .args .to = omega arith in
+returns-2 : tie.Need-returns-2 Inv-loop μ-loop
+returns-2 c =
+    let e : c .before .loop .j ≡ c .before .before .before .before .before .before .args .to = omega arith in
     rw e at (c .before .loop .inv .0)
 
 pub after-last-below-spec : {M : Type 1} → statement M
@@ -47,11 +67,15 @@ after-last-below-spec =
     (tie.spec
     Inv-loop
     μ-loop
+    returns
+    add-number
+    number-requires
     loop-holds
-    window-value-requires
+    rem-value
+    next-requires
     add-j
     loop-less
     loop-again
     loop-less-2
     loop-again-2
-    returns)
+    returns-2)

@@ -1,0 +1,101 @@
+-- `first_low` meets its contract. The invariant: the value at `at` falls below all before it, and x is the number of the window at j.
+use borrow.Author.Needs.{needs}
+use mathlib.Core.Path.{_≡_}
+use Prim.Native.Nat.{_+_, _-_, _≤_, _<_}
+use native.Mathlib.Omega.{arith}
+use Rattle.partition.specs.Cuts.{windowAt, valueAt}
+use Rattle.partition.proofs.Reading.{value-of, window-here}
+use Rattle.partition.proofs.Steps.{Falling, falling-start, falling-on, falling-to, low-reached, low-zero, low-past}
+use Rattle.partition.proofs.scan.first_low.Statement.{statement}
+use Rattle.partition.proofs.scan.first_low.Tie as tie
+
+abbrev Inv-loop : tie.InvT-loop
+Inv-loop bytes window h from end x₀ value₀ at₀ j₀ x value at j =
+    Falling (valueAt (window .width) (window .modulus) bytes) h from at j
+    × (at < end)
+    × (x ≡ windowAt (window .width) bytes j)
+    × (value ≡ valueAt (window .width) (window .modulus) bytes at)
+
+abbrev μ-loop : tie.MeasureT-loop
+μ-loop bytes window h from end x₀ value₀ at₀ j₀ x value at j = end + h - j
+
+add-number : tie.Need-add-number Inv-loop μ-loop
+add-number c = search needs
+
+number-requires : tie.Need-number-requires Inv-loop μ-loop
+number-requires c κs = search needs
+
+rem-value : tie.Need-rem-value Inv-loop μ-loop
+rem-value c = search needs
+
+loop-holds : tie.Need-loop-holds Inv-loop μ-loop
+loop-holds c =
+    let e = window-here _ _ _ (c .before .number .ensures) in
+    (falling-start _ _ _, omega arith, e, value-of _ _ _ _ e)
+
+add-loop : tie.Need-add-loop Inv-loop μ-loop
+add-loop c = search needs
+
+returns : tie.Need-returns Inv-loop μ-loop
+returns c = low-zero _ _ _ _ (c .before .before .loop .inv .0) (c .before .before .loop .inv .3) (omega arith)
+
+next-requires : tie.Need-next-requires Inv-loop μ-loop
+next-requires c κs = search needs
+
+rem-next : tie.Need-rem-next Inv-loop μ-loop
+rem-next c = search needs
+
+add-j : tie.Need-add-j Inv-loop μ-loop
+add-j c = search needs
+
+returns-2 : tie.Need-returns-2 Inv-loop μ-loop
+returns-2 c =
+    let a = c .before .before .before .before .before .before .before .before .before .before .before .args in
+    let e = value-of _ (a .window .modulus) _ _ (c .before .before .before .next .ensures) in
+    let s = c .before .before .before .before .before .before .loop in
+    low-past _ _ _ _ (falling-to _ _ _ (s .inv .0) (omega arith) (omega (arith, e))) e (c .if3 .taken)
+
+loop-less : tie.Need-loop-less Inv-loop μ-loop
+loop-less c = search needs
+
+loop-again : tie.Need-loop-again Inv-loop μ-loop
+loop-again c =
+    let a = c .before .before .before .before .before .before .before .before .before .before .before .args in
+    let e = value-of _ (a .window .modulus) _ _ (c .before .before .before .next .ensures) in
+    let s = c .before .before .before .before .before .before .loop in
+    (falling-to _ _ _ (s .inv .0) (omega arith) (omega (arith, e)), omega arith, c .before .before .before .next .ensures, e)
+
+loop-less-2 : tie.Need-loop-less-2 Inv-loop μ-loop
+loop-less-2 c = search needs
+
+loop-again-2 : tie.Need-loop-again-2 Inv-loop μ-loop
+loop-again-2 c =
+    let a = c .before .before .before .before .before .before .before .before .before .before .args in
+    let e = value-of _ (a .window .modulus) _ _ (c .before .before .next .ensures) in
+    let s = c .before .before .before .before .before .loop in
+    (falling-on _ _ _ (s .inv .0) (omega arith) (omega (arith, e)), omega arith, c .before .before .next .ensures, s .inv .3)
+
+returns-3 : tie.Need-returns-3 Inv-loop μ-loop
+returns-3 c = low-reached _ _ _ _ (c .before .loop .inv .0) (c .before .loop .inv .3) (omega arith)
+
+pub first-low-spec : {M : Type 1} → statement M
+first-low-spec =
+    tie.close
+    (tie.spec
+    Inv-loop
+    μ-loop
+    add-number
+    number-requires
+    rem-value
+    loop-holds
+    add-loop
+    returns
+    next-requires
+    rem-next
+    add-j
+    returns-2
+    loop-less
+    loop-again
+    loop-less-2
+    loop-again-2
+    returns-3)
