@@ -8,14 +8,14 @@ use lib.ListN.{length, drop, replicate, length-append, length-drop, length-repli
 use lib.Seq.{take-append-seam}
 use borrow.Author.Tests.{eq-eqb, le-leb, le-ltb}
 use Rattle.tree.specs.declared.Settings.{Settings}
-use Rattle.message.specs.Words.{plain}
 use Rattle.message.specs.Fields.{one, value}
-use Rattle.message.specs.Messages.{Msg, openingQuery, nodeQuery, headed, wordsThen, sizeOf, encode, Parts, Valid}
+use Rattle.message.specs.Messages.{Msg, openingQuery, nodeQuery, headed, wordsThen, sizeOf, encode, Valid}
 use Rattle.message.proofs.Messages.{length-encode, parse-encode}
 use Rattle.protocol.specs.Lent.{Lent, refusedBy}
 use Rattle.protocol.specs.State.{State, outstanding}
 use Rattle.protocol.specs.Sender.{Written, writing, replyTo, replying, hearing, reply}
 use Rattle.protocol.specs.Receiver.{takeMessage, querying, writeQuery}
+use Rattle.protocol.proofs.Progress.{valid-opening-query, valid-node-query}
 use Rattle.session.specs.Session.{bytesOf, after, taken, answered, round}
 
 -- Bytes at the front of a buffer that holds them.
@@ -44,20 +44,20 @@ pub record Query (σ : Settings) (sender : Lent) (query : Msg) : Type 0 where
 
 module _ (σ : Settings) (sender : Lent) where
   pub opening-query : (n : ℕ) → n < 2 ^ 24 → Query σ sender (openingQuery n)
-  unfolding replyTo Parts sizeOf wordsThen headed one
+  unfolding replyTo sizeOf wordsThen headed one
   opening-query n h =
       record {
-        fields = record { size = omega arith; parts = h };
+        fields = valid-opening-query n h;
         short = omega (arith, length-encode (openingQuery n));
         reply = _;
         replies = refl;
       }
 
   pub node-query : (n l i : ℕ) → n < 2 ^ 24 → l ≤ 4 → i < 18446744073709551616 → Query σ sender (nodeQuery n l i)
-  unfolding replyTo Parts sizeOf wordsThen headed one value plain
+  unfolding replyTo sizeOf wordsThen headed one value
   node-query n l i h k j =
       record {
-        fields = record { size = omega arith; parts = (h, omega (arith, k), omega (arith, j)) };
+        fields = valid-node-query n l i h k j;
         short = omega (arith, length-encode (nodeQuery n l i));
         reply = _;
         replies = refl;

@@ -3,8 +3,8 @@
 use mathlib.Core.Bool.{true, _&&_}
 use mathlib.Core.List.{List, [], _∷_}
 use mathlib.Core.Option.{some}
-use mathlib.Core.Path.{_≡_, refl, ap, subst}
-use Prim.Native.Nat.{ℕ, suc, _+_, _*_, _/_, _≤_}
+use mathlib.Core.Path.{_≡_, subst}
+use Prim.Native.Nat.{ℕ, _+_, _*_, _/_, _≤_}
 use native.Mathlib.Omega.{arith}
 use lib.ListN.{length, drop, length-append, length-take, length-drop}
 use borrow.Author.Tests.{ltb-true}
@@ -24,17 +24,7 @@ use Rattle.protocol.specs.Lent.{Lent}
 use Rattle.protocol.specs.Nodes.{Entry, blockIn}
 use Rattle.protocol.specs.Sender.{childIds, composable, refsOf, referable, nodeReply, openingReply, replyTo}
 use Rattle.protocol.proofs.Cases.{chosen, same-message, no-message}
-
--- How many words the longer fields have.
-length-references : (refs : List Ref) → length (manyTo referenceWord refs) ≡ length refs
-unfolding manyTo
-length-references [] = refl
-length-references (r ∷ refs) = ap suc (length-references refs)
-
-length-values : (xs : List ℕ) → length (valuesTo xs) ≡ length xs * 3
-unfolding valuesTo value
-length-values [] = refl
-length-values (x ∷ xs) = let e = length-values xs in omega (arith, e)
+use Rattle.protocol.proofs.Valid.{length-references, length-values}
 
 -- Whether a message fits so many bytes, for each type of reply.
 abbrev Fits : ℕ → Msg → Type 0

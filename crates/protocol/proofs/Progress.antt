@@ -75,11 +75,11 @@ module _ (σ : Settings) (string : List ℕ) where
   query-replies n l i = node-replies n l i (firstOf l i (blocksOf σ string))
 
 -- The queries of a receiver are within their fields.
-valid-opening-query : (n : ℕ) → n < 2 ^ 24 → Valid (openingQuery n)
+pub valid-opening-query : (n : ℕ) → n < 2 ^ 24 → Valid (openingQuery n)
 unfolding Parts sizeOf wordsThen headed one
 valid-opening-query n h = record { size = omega arith; parts = h }
 
-valid-node-query : (n l i : ℕ) → n < 2 ^ 24 → l ≤ 4 → i < 18446744073709551616 → Valid (nodeQuery n l i)
+pub valid-node-query : (n l i : ℕ) → n < 2 ^ 24 → l ≤ 4 → i < 18446744073709551616 → Valid (nodeQuery n l i)
 unfolding Parts sizeOf wordsThen headed one value plain
 valid-node-query n l i h k j = record { size = omega arith; parts = (h, omega (arith, k), omega (arith, j)) }
 

@@ -177,7 +177,8 @@ unfolding along
 cells-fit zero i f = tt
 cells-fit (suc n) i f = (mod-lt (f i) (omega arith), cells-fit n (suc i) f)
 
-length-values : (xs : List ℕ) → length (valuesTo xs) ≡ length xs * 3
+-- Three words for each value.
+pub length-values : (xs : List ℕ) → length (valuesTo xs) ≡ length xs * 3
 unfolding valuesTo value
 length-values [] = refl
 length-values (x ∷ xs) = let e = length-values xs in omega (arith, e)
@@ -227,10 +228,11 @@ length-text (a ∷ []) = omega arith
 length-text (a ∷ b ∷ []) = omega arith
 length-text (a ∷ b ∷ c ∷ rest) = let h = length-text rest in omega (arith, h)
 
-length-many : (refs : List Ref) → length (manyTo referenceWord refs) ≡ length refs
+-- A word for each reference.
+pub length-references : (refs : List Ref) → length (manyTo referenceWord refs) ≡ length refs
 unfolding manyTo
-length-many [] = refl
-length-many (r ∷ refs) = ap suc (length-many refs)
+length-references [] = refl
+length-references (r ∷ refs) = ap suc (length-references refs)
 
 -- Each type of reply.
 valid-none : (n l i : ℕ) → Valid (nodeQuery n l i) → Valid (noNode n l i)
@@ -251,7 +253,7 @@ module _ (τ : Settings) (string : List ℕ) (setup : Accepted τ string) where
   valid-composition n l i ids refs v few order =
       let f = refs-fit τ string setup (l + 1) ids refs few order in
       let e = length-append (manyTo referenceWord refs) [] in
-      let h = length-many refs in
+      let h = length-references refs in
       let x = number-small ids in
       record { size = omega (arith, e, h, f .2); parts = (v .parts .0, v .parts .1, v .parts .2, omega (arith, x), (f .0, f .1)) }
 
