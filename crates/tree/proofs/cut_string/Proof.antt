@@ -1,9 +1,14 @@
 -- Each way out is an outcome of the definition. The first 65,536 bytes of the table are lent to be written, the rest is cleared.
-use mathlib.Core.Path.{refl, sym, _∙_}
+use mathlib.Core.List.{_++_}
+use mathlib.Core.Path.{_≡_, refl, sym, _∙_}
 use Prim.Native.Nat.{ℕ, _+_, _*_, _^_, _≤_, _<_}
 use native.Mathlib.Omega.{arith}
 use borrow.Author.Needs.{needs}
-use lib.Seq.{length-take-le}
+use lib.ListN.{length, take, drop}
+use lib.Seq.{length-take-le, length-front}
+use Rattle.tree.specs.Questions.{refusal}
+use Rattle.tree.specs.Tree.{treeOf}
+use Rattle.tree.specs.Wrote.{Wrote}
 use Rattle.tree.proofs.Questions.{first-cutting}
 use Rattle.tree.proofs.Outcome.{refused-settings, refused-room, refused-count, accepted}
 use Rattle.tree.proofs.cut_string.Statement.{statement}
@@ -21,35 +26,55 @@ question-requires c κs = search needs
 returns : tie.Need-returns
 returns c = refused-settings _ _ _ _ (c .before .question .ensures) (c .if1 .taken)
 
+-- Questions 1 to 6 are passed.
+passed : (c : tie.Else1) → let a = c .before .before .before .before .args in refusal (a .settings) (length (a .string .now)) ≡ 0
+passed c = sym (c .before .question .ensures) ∙ c .if1 .left
+
 returns-2 : tie.Need-returns-2
-returns-2 c = refused-room _ _ _ (sym (c .before .before .question .ensures) ∙ c .before .if1 .left) (c .if2 .taken)
+returns-2 c = refused-room _ _ _ (passed (c .before)) (c .if2 .taken)
+
+-- The table has the 65,536 bytes that are lent.
+room : (c : tie.Else2) → 65536 ≤ length (c .before .before .before .before .before .args .nodes .now)
+room c = c .if2 .left
+
+lent : (c : tie.Else2) → length (take 65536 (c .before .before .before .before .before .args .nodes .now)) ≡ 65536
+lent c = length-take-le 65536 (c .before .before .before .before .before .args .nodes .now) (room c)
 
 slice-relend-prefix-cut-node : tie.Need-slice-relend-prefix-cut-node
 slice-relend-prefix-cut-node c = search needs
 
 slice-aggregate-cut-node : tie.Need-slice-aggregate-cut-node
-slice-aggregate-cut-node c =
-    sym (length-take-le 65536 (c .before .before .before .before .before .before .args .nodes .now) (c .before .if2 .left))
+slice-aggregate-cut-node c = sym (lent (c .before))
 
 cut-node-requires : tie.Need-cut-node-requires
-cut-node-requires c κs =
-    let asked = c .before .before .before in
-    first-cutting _ _ _ (sym (asked .question .ensures) ∙ c .before .before .if1 .left)
-    (length-take-le 65536 (asked .before .before .before .args .nodes .now) (c .before .if2 .left))
+cut-node-requires c κs = first-cutting _ _ _ (passed (c .before .before)) (lent (c .before))
+
+-- They came back with the tree written to them, as many as they were, so that the table is as long as it was.
+wrote : (c : tie.After-cut-node) → let a = c .before .before .before .before .before .before .before .args in
+    Wrote (take 65536 (a .nodes .now)) (c .cut-node .last .1 .1 .1 .1 .1 .0) 0 (treeOf (a .settings) (a .settings .levels) 0 0 (a .string .now)) (c .cut-node .result)
+wrote c = c .cut-node .ensures
+
+kept : (c : tie.After-cut-node) → let a = c .before .before .before .before .before .before .before .args in
+    length (c .cut-node .last .1 .1 .1 .1 .1 .0) ≡ length (take 65536 (a .nodes .now))
+kept c = c .cut-node .kept .1 .1 .1 .1 .1 .0
+
+whole : (c : tie.After-cut-node) → let a = c .before .before .before .before .before .before .before .args in
+    length (c .cut-node .last .1 .1 .1 .1 .1 .0 ++ drop 65536 (a .nodes .now)) ≡ length (a .nodes .now)
+whole c =
+    length-front (c .before .before .before .before .before .before .before .args .nodes .now) (c .cut-node .last .1 .1 .1 .1 .1 .0) 65536 (kept c)
 
 clear-requires : tie.Need-clear-requires
 clear-requires c κs = search needs
 
 same-length : tie.Need-same-length
-same-length c = search needs
+same-length c = c .before .before .clear .kept .0 ∙ whole (c .before .before .before .before .before .before .before)
 
 returns-3 : tie.Need-returns-3
 returns-3 c =
     let cut = c .before .before .before .before .before .before .before in
-    let asked = cut .before .before .before .before in
-    let a = asked .before .before .before .args in
-    refused-count (a .settings) (a .string .now) (a .nodes .now) (sym (asked .question .ensures) ∙ cut .before .before .before .if1 .left) (cut .before .before .if2 .left) _ _
-    (cut .cut-node .ensures) (cut .cut-node .kept .1 .1 .1 .1 .1 .0) _ (c .before .before .before .before .if3 .taken) (c .before .before .clear .ensures)
+    let a = cut .before .before .before .before .before .before .before .args in
+    refused-count (a .settings) (a .string .now) (a .nodes .now) (passed (cut .before .before .before)) (room (cut .before .before)) _ _
+    (wrote cut) (kept cut) _ (c .before .before .before .before .if3 .taken) (c .before .before .clear .ensures)
 
 mul-clear : tie.Need-mul-clear
 mul-clear c = record { fits = times-fits _ (c .before .if3 .left) }
@@ -61,15 +86,14 @@ add-result : tie.Need-add-result
 add-result c = record { fits = plus-fits _ (c .before .before .before .before .if3 .left) }
 
 same-length-2 : tie.Need-same-length-2
-same-length-2 c = search needs
+same-length-2 c = c .before .before .clear2 .kept .0 ∙ whole (c .before .before .before .before .before .before .before)
 
 returns-4 : tie.Need-returns-4
 returns-4 c =
     let cut = c .before .before .before .before .before .before .before in
-    let asked = cut .before .before .before .before in
-    let a = asked .before .before .before .args in
-    accepted (a .settings) (a .string .now) (a .nodes .now) (sym (asked .question .ensures) ∙ cut .before .before .before .if1 .left) (cut .before .before .if2 .left) _ _
-    (cut .cut-node .ensures) (cut .cut-node .kept .1 .1 .1 .1 .1 .0) _ _ (c .before .before .before .before .if3 .left) (c .before .before .clear2 .ensures) refl
+    let a = cut .before .before .before .before .before .before .before .args in
+    accepted (a .settings) (a .string .now) (a .nodes .now) (passed (cut .before .before .before)) (room (cut .before .before)) _ _
+    (wrote cut) (kept cut) _ _ (c .before .before .before .before .if3 .left) (c .before .before .clear2 .ensures) refl
 
 pub cut-string-spec : {M : Type 1} → statement M
 cut-string-spec =
