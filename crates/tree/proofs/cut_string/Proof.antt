@@ -1,7 +1,7 @@
 -- Each way out is an outcome of the definition. The first 65,536 bytes of the table are lent to be written, the rest is cleared.
 use mathlib.Core.List.{_++_}
 use mathlib.Core.Path.{_≡_, refl, sym, _∙_}
-use Prim.Native.Nat.{ℕ, _+_, _*_, _^_, _≤_, _<_}
+use Prim.Native.Nat.{ℕ, _+_, _^_, _≤_, _<_}
 use native.Mathlib.Omega.{arith}
 use borrow.Author.Needs.{needs}
 use lib.ListN.{length, take, drop}
@@ -13,9 +13,6 @@ use Rattle.tree.proofs.Questions.{first-cutting}
 use Rattle.tree.proofs.Outcome.{refused-settings, refused-room, refused-count, accepted}
 use Rattle.tree.proofs.cut_string.Statement.{statement}
 use Rattle.tree.proofs.cut_string.Tie as tie
-
-times-fits : (used : ℕ) → used ≤ 4096 → used * 16 < 2 ^ 64
-times-fits used h = omega arith
 
 plus-fits : (used : ℕ) → used ≤ 4096 → 4294967296 + used < 2 ^ 64
 plus-fits used h = omega arith
@@ -77,7 +74,7 @@ returns-3 c =
     (wrote cut) (kept cut) _ (c .before .before .before .before .if3 .taken) (c .before .before .clear .ensures)
 
 mul-clear : tie.Need-mul-clear
-mul-clear c = record { fits = times-fits _ (c .before .if3 .left) }
+mul-clear c = omega (arith, c .before .if3 .left)
 
 clear-requires-2 : tie.Need-clear-requires-2
 clear-requires-2 c κs = search needs
