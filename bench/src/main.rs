@@ -2,8 +2,9 @@
 //!
 //!     bench [GROUP...]
 //!
-//! The groups are `tree`, `trails`, `setups`, `openings` and `sessions`; none stands for all that are
-//! built in. A group is built in by the feature of its name, and all are, unless cargo is told otherwise.
+//! The groups are `tree`, `growth`, `trails`, `setups`, `openings` and `sessions`; none stands for all
+//! that are built in. A group is built in by the feature of its name (`growth` by `tree`), and all are,
+//! unless cargo is told otherwise.
 //!
 //! A cost is counted in plain FNV-1a passes, which are timed in turn with the calls. Nothing here
 //! fails because of a time; a wrong answer stops the run.
@@ -24,6 +25,8 @@ mod tree;
 const GROUPS: &[(&str, fn())] = &[
     #[cfg(feature = "tree")]
     ("tree", tree::run),
+    #[cfg(feature = "tree")]
+    ("growth", tree::run_growth),
     #[cfg(feature = "trails")]
     ("trails", trails::run),
     #[cfg(feature = "setups")]

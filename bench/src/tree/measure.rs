@@ -41,11 +41,12 @@ fn tree(settings: &Settings, string: &[u8], nodes: &mut [u8]) -> u64 {
     }
 }
 
-/// Measures one setting. The reference is run once over each of the longest strings.
-pub fn row(settings: &Settings, strings: &[Vec<Vec<u8>>]) -> Row {
+/// Measures one setting. The reference, if it is asked for, is run once over each of the longest strings.
+pub fn row(settings: &Settings, strings: &[Vec<Vec<u8>>], with_reference: bool) -> Row {
     let costs = |sizes: &Vec<Vec<u8>>| {
         let longest = sizes.len() - 1;
-        let cost = |(k, string): (usize, &Vec<u8>)| cost(settings, string, k == longest);
+        let cost =
+            |(k, string): (usize, &Vec<u8>)| cost(settings, string, with_reference && k == longest);
         sizes.iter().enumerate().map(cost).collect()
     };
     Row {

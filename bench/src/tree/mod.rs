@@ -3,6 +3,7 @@
 //! A cost is counted in plain FNV-1a passes over the same bytes. All figures are ratios of such
 //! costs.
 
+mod growth;
 mod measure;
 mod strings;
 mod table;
@@ -12,8 +13,18 @@ pub fn run() {
     let strings = strings::all();
     let rows: Vec<measure::Row> = table::settings()
         .iter()
-        .map(|settings| measure::row(settings, &strings))
+        .map(|settings| measure::row(settings, &strings, true))
         .collect();
     table::print(&rows);
     table::print_worst(&rows);
+}
+
+/// Measures how the time grows with the string under many more settings, and prints a sentence.
+pub fn run_growth() {
+    let strings = strings::all();
+    let rows: Vec<measure::Row> = growth::settings()
+        .iter()
+        .map(|settings| measure::row(settings, &strings[..strings::SEVENS], false))
+        .collect();
+    growth::print_above(&rows, 5.0);
 }

@@ -1,11 +1,9 @@
 //! The settings that are measured, and what is printed of them.
 
+use super::growth::{growth, name, worst, Figure};
 use super::measure::{Cost, Row};
-use super::strings::{CONTENTS, SIZES};
+use super::strings::{CONTENTS, RANDOM, SEVENS, SIZES, ZEROS};
 use reference::settings::Settings;
-
-const ZEROS: usize = 0;
-const RANDOM: usize = 1;
 
 /// One level with h from 1 to 32,768; four levels with p = 2 and with p = 8, the first h from 8 to
 /// 32,768 and the last from 1 to 4,096; the shortest and the longest window.
@@ -29,16 +27,6 @@ pub fn settings() -> Vec<Settings> {
         }
     }
     settings
-}
-
-fn name(settings: &Settings) -> String {
-    let Settings {
-        window,
-        fan_out,
-        levels,
-        nominal,
-    } = settings;
-    format!("{window} {fan_out} {levels} {nominal}")
 }
 
 fn distances(settings: &Settings) -> String {
@@ -85,34 +73,6 @@ fn passes(cost: &Cost) -> String {
     format!("{:.1}{star}", cost.passes)
 }
 
-/// A figure, and where it was found.
-type Figure = (f64, String);
-
-fn worst(figures: impl Iterator<Item = Figure>) -> Figure {
-    let larger = |a: Figure, b: Figure| if b.0 > a.0 { b } else { a };
-    figures.reduce(larger).expect("something was measured")
-}
-
-/// How much longer a call takes that costs `longer` passes over four times the bytes than one that
-/// costs `shorter` passes.
-fn times(longer: f64, shorter: f64) -> f64 {
-    4.0 * longer / shorter
-}
-
-/// How much longer each string takes than the one of a quarter of its length, with the same
-/// settings.
-fn growth(row: &Row) -> Vec<Figure> {
-    let mut figures = Vec::new();
-    for (costs, (content, _)) in row.costs.iter().zip(CONTENTS) {
-        for pair in costs.windows(2) {
-            let longer = pair[1].length / 1_024;
-            let place = format!("{}, {content} of {longer} KiB", name(&row.settings));
-            figures.push((times(pair[1].passes, pair[0].passes), place));
-        }
-    }
-    figures
-}
-
 fn zeros_to_random(row: &Row) -> Vec<Figure> {
     let pairs = row.costs[ZEROS].iter().zip(&row.costs[RANDOM]);
     let figure = |(zeros, random): (&Cost, &Cost)| {
@@ -130,32 +90,15 @@ fn longest(row: &Row) -> Vec<Figure> {
     row.costs.iter().zip(CONTENTS).map(figure).collect()
 }
 
-/// How much longer the dearest setting of each length takes than that of a quarter of the length, over
-/// one content.
-fn growth_of_dearest(rows: &[Row], content: usize) -> Vec<Figure> {
-    let dearest = |size: usize| {
-        let figure = |row: &Row| (row.costs[content][size].passes, name(&row.settings));
-        worst(rows.iter().map(figure))
-    };
-    let figure = |size: usize| {
-        let ((shorter, _), (longer, setting)) = (dearest(size - 1), dearest(size));
-        let place = format!("{}, {} KiB, {setting}", CONTENTS[content].0, SIZES[size]);
-        (times(longer, shorter), place)
-    };
-    (1..SIZES.len()).map(figure).collect()
-}
-
-/// How the time grows: of the dearest settings, and with the same settings.
+/// How the time grows with the string.
 fn print_growth(rows: &[Row]) {
-    let contents = 0..CONTENTS.len();
-    let (most, place) = worst(contents.flat_map(|content| growth_of_dearest(rows, content)));
+    let all = |content: usize| rows.iter().flat_map(move |row| growth(row, content));
+    let (most, place) = worst((ZEROS..SEVENS).flat_map(all));
+    println!("Four times the bytes cost at most {most:.2} times the time ({place}).");
+    let (most, place) = worst(all(SEVENS));
     println!(
-        "Four times the bytes cost at most {most:.1} times the time, each length at its dearest setting ({place})."
-    );
-    let (most, place) = worst(rows.iter().flat_map(growth));
-    println!(
-        "With the same settings they cost at most {most:.1} times the time ({place}): a string that is too short \
-         to be cut at a level is only hashed."
+        "For sevens they cost at most {most:.2} times the time ({place}): the shorter string has no position \
+         where a cut may lie and is only hashed, and of the longer one every window is looked at."
     );
 }
 
