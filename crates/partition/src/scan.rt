@@ -59,8 +59,8 @@ fn after_last_below(bytes: &[u8], window: Window, m: u32, from: usize, to: usize
     r
 }
 
-// The first position from `from` on whose value is below all from there up to it and not above any of the h after it, or one
-// at `end` or past it where there is none before `end`. Where a smaller value follows within h, all before it are no candidates.
+// The first position that no value from `from` on bars: its own is below all from `from` up to it and not above any of the h
+// after it. Where there is none before `end`, a position from `end` on. A smaller value bars the h positions before itself.
 fn first_low(bytes: &[u8], window: Window, h: usize, from: usize, end: usize) -> Place
     requires { ⌜ Slides (window .width) (window .leaving) (window .modulus) ⌝ }
     requires { ⌜ from < end ⌝ }
@@ -91,7 +91,8 @@ fn first_low(bytes: &[u8], window: Window, h: usize, from: usize, end: usize) ->
 }
 
 // The first candidate of the positions from `from` up to `end` and its value, or `end` if there is none. No value of the h
-// positions before `from` is below `floor`.
+// positions before `from` is below `floor`. A position that no value from the start on bars is a candidate unless a smaller value
+// before the start does. The last such value bars the h positions after itself, and the search starts again after these.
 pub fn next_candidate(
     bytes: &[u8],
     window: Window,
