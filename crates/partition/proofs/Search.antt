@@ -8,8 +8,8 @@ use native.Mathlib.Nat.{zero-add, add-zero, suc-add, add-suc}
 use native.Mathlib.Numerals.{add-one}
 use native.Mathlib.Omega.{arith}
 use lib.Dec.{leb}
-use lib.ListN.{length, take, set, length-set}
-use lib.Seq.{take-suc-set, take-nil}
+use lib.ListN.{length, take, drop, set, replicate, length-set}
+use lib.Seq.{take-suc-set, take-nil, drop-drop, drop-set-lt}
 use borrow.Author.Tests.{le-leb, lt-leb}
 use Rattle.partition.specs.Cuts.{windowAt, valueAt, lowest, candidate, consIf, passing, spaced, cutsOf}
 use Rattle.partition.specs.Found.{Found}
@@ -123,6 +123,7 @@ pub record Going (w h s : ℕ) (bytes at : List ℕ) (n a : ℕ) : Type 0 where
   pub cuts : take n at ++ take (31 - n) (after (candidate w h s bytes) h (length bytes + 1) a) ≡ cutsOf w h s bytes
   pub few : n < 31
   pub places : length at ≡ 32
+  pub rest : drop n at ≡ replicate (32 - n) 0
   pub from : h ≤ a
 
 -- Before h there is no candidate, so the cuts are those from h on.
@@ -135,8 +136,8 @@ cuts-after w h s bytes =
     ∙ skip (candidate w h s bytes) h (length bytes + 1) 0 h (omega arith) (λ x low high. not-candidate w h s bytes x (λ c. omega (arith, c .left))))
 
 module _ (w h s : ℕ) (bytes at : List ℕ) where
-  pub going-first : length at ≡ 32 → Going w h s bytes at 0 h
-  going-first l = record { cuts = sym (cuts-after w h s bytes); few = omega arith; places = l; from = omega arith }
+  pub going-first : length at ≡ 32 → at ≡ replicate 32 0 → Going w h s bytes at 0 h
+  going-first l z = record { cuts = sym (cuts-after w h s bytes); few = omega arith; places = l; rest = z; from = omega arith }
 
   module _ (n a to p : ℕ) (G : Going w h s bytes at n a) (F : FirstPassing (candidate w h s bytes) a to p) where
     pub going-past : to ≤ p → Going w h s bytes at n to
@@ -145,6 +146,7 @@ module _ (w h s : ℕ) (bytes at : List ℕ) where
           cuts = rw (← skip (candidate w h s bytes) h (length bytes + 1) a to (omega arith) (λ x low high. F .before x low (omega arith))) (G .cuts);
           few = G .few;
           places = G .places;
+          rest = G .rest;
           from = omega arith;
         }
 
@@ -161,8 +163,14 @@ module _ (w h s : ℕ) (bytes at : List ℕ) where
               skip (candidate w h s bytes) h (length bytes + 1) a p (omega arith) (F .before)
               ∙ cut (candidate w h s bytes) h (length bytes + 1) p (omega arith) (F .found l)
 
+      rest-on : drop (n + 1) (set at n p) ≡ replicate (32 - (n + 1)) 0
+      rest-on =
+          let k : 32 - n ≡ suc (32 - (n + 1)) = omega arith in
+          drop-set-lt (n + 1) at n p (omega arith)
+          ∙ (sym (drop-drop 1 n at) ∙ (ap (drop 1) (G .rest) ∙ ap (λ (m : ℕ). drop 1 (replicate m 0)) k))
+
       pub going-on : (n + 1 ≡ 31 → ⊥) → Going w h s bytes (set at n p) (n + 1) (p + step)
-      going-on ne = record { cuts = one-cut; few = omega arith; places = length-set at n p ∙ G .places; from = omega arith }
+      going-on ne = record { cuts = one-cut; few = omega arith; places = length-set at n p ∙ G .places; rest = rest-on; from = omega arith }
 
       pub found-full : n + 1 ≡ 31 → Found w h s bytes (n + 1) (set at n p)
       found-full e = record {
@@ -172,6 +180,7 @@ module _ (w h s : ℕ) (bytes at : List ℕ) where
             one-cut;
         few = omega arith;
         places = length-set at n p ∙ G .places;
+        rest = rest-on;
       }
 
   pub found-all : (n a : ℕ) → Going w h s bytes at n a → length bytes + 1 - (w + h) ≤ a → Found w h s bytes n at
@@ -183,6 +192,7 @@ module _ (w h s : ℕ) (bytes at : List ℕ) where
             (G .cuts);
         few = omega arith;
         places = G .places;
+        rest = G .rest;
       }
     where
       none : (x : ℕ) → a ≤ x → candidate w h s bytes x ≡ false
@@ -206,4 +216,4 @@ module _ (w s width leaving modulus : ℕ) (S : Sized w s width leaving modulus)
       (ap (λ (v : ℕ → ℕ). take 31 (spaced h 0 (passing (λ i. leb h i && (leb (i + w + h) (length bytes) && lowest v i h)) (length bytes + 1) 0))) same-values)
 
   pub found-same : {n : ℕ} {at : List ℕ} → Found width h modulus bytes n at → Found w h s bytes n at
-  found-same F = record { cuts = F .cuts ∙ same-cuts; few = F .few; places = F .places }
+  found-same F = record { cuts = F .cuts ∙ same-cuts; few = F .few; places = F .places; rest = F .rest }

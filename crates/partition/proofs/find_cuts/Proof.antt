@@ -21,7 +21,7 @@ range-end-requires : tie.Need-range-end-requires Inv-loop μ-loop
 range-end-requires c κs = search needs
 
 returns : tie.Need-returns Inv-loop μ-loop
-returns c = found-all _ _ _ _ _ _ _ (going-first _ _ _ _ _ refl) (omega arith)
+returns c = found-all _ _ _ _ _ _ _ (going-first _ _ _ _ _ refl refl) (omega arith)
 
 window-of-requires : tie.Need-window-of-requires Inv-loop μ-loop
 window-of-requires c κs = search needs
@@ -30,7 +30,7 @@ step-requires : tie.Need-step-requires Inv-loop μ-loop
 step-requires c κs = search needs
 
 loop-holds : tie.Need-loop-holds Inv-loop μ-loop
-loop-holds c = (going-first _ _ _ _ _ refl, record { before = λ j a b. omega arith })
+loop-holds c = (going-first _ _ _ _ _ refl refl, record { before = λ j a b. omega arith })
 
 next-candidate-requires : tie.Need-next-candidate-requires Inv-loop μ-loop
 next-candidate-requires c κs =
