@@ -1,13 +1,12 @@
 -- A window's number, read byte by byte with the remainder taken at each step: taking it early changes nothing modulo 65,521.
 use mathlib.Core.List.{List, [], _∷_}
 use mathlib.Core.Path.{_≡_, sym, ap, _∙_}
-use Prim.Native.Nat.{ℕ, suc, _+_, _*_, _-_, _/_, _%_, _≤_, _<_, min}
-use native.Mathlib.Nat.{mod-mod, mod-eq-of-lt, zero-mod, mul-add-mod-self-right}
-use native.Mathlib.Decide.{decLe}
+use Prim.Native.Nat.{ℕ, suc, _+_, _*_, _-_, _/_, _%_, _≤_, _<_}
+use native.Mathlib.Nat.{mod-mod, mod-eq-of-lt, mul-add-mod-self-right}
 use native.Mathlib.Numerals.{add-one}
 use native.Mathlib.Omega.{arith}
-use lib.ListN.{length, getD, take, drop, length-drop, drop-of-length-le}
-use lib.Seq.{drop-cons, take-nil, take-all}
+use lib.ListN.{length, getD, take, drop}
+use lib.Seq.{drop-cons}
 use Rattle.partition.specs.Cuts.{numberFrom, windowAt, valueAt}
 
 pub step : (x b : ℕ) → (x % 65521 * 257 + b) % 65521 ≡ (x * 257 + b) % 65521
@@ -54,21 +53,3 @@ pub window-here : (w : ℕ) (bytes : List ℕ) (i : ℕ) {x : ℕ} → x ≡ win
 window-here w bytes i e =
     let n : i + w - i ≡ w = omega arith in
     rw n at e
-
--- Past the end of the bytes there is nothing to read.
-pub value-past : (w s : ℕ) (bytes : List ℕ) (i : ℕ) → length bytes ≤ i → valueAt w s bytes i ≡ 0
-unfolding valueAt windowAt numberFrom
-value-past w s bytes i h = rw (drop-of-length-le bytes {i = i} h, take-nil w) (zero-mod s)
-
--- A window that would pass the end of the bytes has fewer bytes.
-pub window-within : (w : ℕ) (bytes : List ℕ) (i : ℕ) → windowAt (min (i + w) (length bytes) - i) bytes i ≡ windowAt w bytes i
-unfolding windowAt
-window-within w bytes i = ap (λ (part : List ℕ). numberFrom 0 part % 65521) (same (decLe (i + w) (length bytes)))
-  where
-    same : Dec (i + w ≤ length bytes) → take (min (i + w) (length bytes) - i) (drop i bytes) ≡ take w (drop i bytes)
-    same (yes h) =
-        let e : min (i + w) (length bytes) - i ≡ w = omega arith in
-        rw e
-    same (no h) =
-        take-all (min (i + w) (length bytes) - i) (drop i bytes) (simp length-drop (omega arith))
-        ∙ sym (take-all w (drop i bytes) (simp length-drop (omega arith)))

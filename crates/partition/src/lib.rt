@@ -1,6 +1,4 @@
-// Where one block of bytes is cut, by document 01's rule, in time linear in the block's length.
-ghost use mathlib.Core.Path.{_≡_};
-ghost use Rattle.partition.specs.Cuts.{valueAt};
+// Where one block of bytes is cut, by document 01's rule.
 ghost use Rattle.partition.specs.Found.{Found};
 
 mod scan;
@@ -11,18 +9,6 @@ mod window;
 pub struct Cuts {
     pub n: usize,
     pub at: [usize; 32],
-}
-
-// The window value at i. A window that would pass the end of the bytes has fewer bytes, and s = 0 takes no remainder.
-pub fn window_value(bytes: &[u8], w: usize, s: u64, i: usize) -> u64
-    ensures { λ r. ⌜ r ≡ valueAt w s (now (bytes .entry)) i ⌝ }
-{
-    if bytes.len() <= i {
-        return 0;
-    }
-    let to = window::nearer(i, w, bytes.len());
-    let x = window::number(bytes, i, to);
-    window::modulo(x as u64, s)
 }
 
 // The cuts of a block, for any w, h and s.
