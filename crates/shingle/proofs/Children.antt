@@ -13,11 +13,11 @@ use Rattle.shingle.proofs.Siblings.{sibling-deeper, sibling-there, sibl
 use Rattle.shingle.proofs.Rising.{listed-exactly}
 
 -- The nodes before those that come after ns.
-later : List Listed → List Listed → List Listed
+unfoldable pub later : List Listed → List Listed → List Listed
 later [] before = before
 later (n ∷ ns) before = later ns (n ∷ before)
 
-pairs-append : (before ns ms : List Listed) → pairsAfter before (ns ++ ms) ≡ pairsAfter before ns ++ pairsAfter (later ns before) ms
+pub pairs-append : (before ns ms : List Listed) → pairsAfter before (ns ++ ms) ≡ pairsAfter before ns ++ pairsAfter (later ns before) ms
 unfolding pairsAfter later
 pairs-append before [] ms = refl
 pairs-append before (n ∷ ns) ms = ap (λ (l : List Pair). pair (n .level) (siblingOf (n .level) before) (n .id) ∷ l) (pairs-append (n ∷ before) ns ms)
@@ -33,7 +33,7 @@ many-append k (p ∷ a) b = go (samePair k p) (many-append k a b)
     go false e = e
 
 -- Deeper nodes do not change who is the left sibling.
-sibling-below : {l : ℕ} {below : List Listed} (before : List Listed) → Deeper l below → siblingOf l (later below before) ≡ siblingOf l before
+pub sibling-below : {l : ℕ} {below : List Listed} (before : List Listed) → Deeper l below → siblingOf l (later below before) ≡ siblingOf l before
 unfolding later
 sibling-below before none = refl
 sibling-below {l} before (more {n = n} h d) = sibling-below (n ∷ before) d ∙ sibling-deeper l n before h

@@ -36,16 +36,16 @@ module _ (σ : Settings) where
       more h (deeper-turns (treeOf σ left (level + 1)) (λ s b. deeper-tree left (level + 1) l (omega arith) s b) start (childrenOf σ (level + 1) bytes))
 
   -- What is listed after a node of the tree and below it.
-  below : ℕ → ℕ → ℕ → List ℕ → List Node
+  pub below : ℕ → ℕ → ℕ → List ℕ → List Node
   below zero level start bytes = []
   below (suc left) level start bytes = inTurn (treeOf σ left (level + 1)) start (childrenOf σ (level + 1) bytes)
 
-  tree-first : (left level start : ℕ) (bytes : List ℕ) → treeOf σ left level start bytes ≡ node level start bytes ∷ below left level start bytes
+  pub tree-first : (left level start : ℕ) (bytes : List ℕ) → treeOf σ left level start bytes ≡ node level start bytes ∷ below left level start bytes
   unfolding treeOf below
   tree-first zero level start bytes = refl
   tree-first (suc left) level start bytes = refl
 
-  deeper-below : (left level start : ℕ) (bytes : List ℕ) → Deeper level (map listedOf (below left level start bytes))
+  pub deeper-below : (left level start : ℕ) (bytes : List ℕ) → Deeper level (map listedOf (below left level start bytes))
   unfolding below
   deeper-below zero level start bytes = none
   deeper-below (suc left) level start bytes =

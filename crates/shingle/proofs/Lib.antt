@@ -11,4 +11,5 @@ pub mod Counts
 pub mod Rising
 pub mod Children
 pub mod Descent
+pub mod TreePairs
 pub mod NodeTable

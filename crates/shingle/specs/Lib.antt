@@ -3,3 +3,4 @@ pub mod Table
 pub mod Steps
 pub mod Rising
 pub mod Children
+pub mod TreePairs
