@@ -44,11 +44,11 @@ pub fn contains(shingles: &[u8], s: Shingle) -> bool
     let n = shingles.len() / 24;
     let mut place = 0;
     while place < n {
-        let e = entries::get(shingles, place);
-        if e.tail % 65536 == 0 {
+        let entry = entries::get(shingles, place);
+        if entry.tail % 65536 == 0 {
             return false;
         }
-        if agrees(s, e) {
+        if agrees(s, entry) {
             return true;
         }
         place += 1;

@@ -22,7 +22,7 @@ pub record Power (base exponent r : ℕ) : Type 0 where
   pub positive : 0 < r
   pub small : r ≤ 4096
 
--- Settings that pass questions 1 to 5.
+-- Settings that pass questions 1 to 4.
 pub record Granted (σ : Settings) : Type 0 where
   pub window-low : 2 ≤ σ .window
   pub window-high : σ .window ≤ 12
