@@ -16,8 +16,9 @@
  *   of them, and relies on nothing that its caller has checked.
  * - The caller answers for two things: each piece is there in full, with as
  *   many bytes as the length says; and no piece lent for writing overlaps
- *   another piece. A piece may stand at any address, aligned or not. The
- *   pointer of a piece without bytes is not read, but must not be null.
+ *   another piece. A piece may stand at any address, aligned or not. A piece
+ *   of 0 bytes may be null: nothing is read there. Pieces lent for reading
+ *   only may overlap each other.
  *
  * Answers. A call answers a uint64_t. From 1 to 2^32 - 1 it is the number of
  * the first question that had a no, and the call is refused. Otherwise the
@@ -213,8 +214,9 @@ static inline const char *rcds_question_words(uint64_t answer)
  * Refused by 1 to 7: the table is unchanged. Refused by 8: every lent byte of
  * it is zero.
  *
- * The time grows in proportion to string_len times levels, whatever the bytes
- * are.
+ * The call ends for every string. How long it takes was measured and is not
+ * proved: at most 23 plain FNV-1a passes over the string for the slowest
+ * settings and strings of 65,536 bytes found.
  */
 uint64_t rcds_tree(uint64_t w, uint64_t p, uint64_t levels, uint64_t nominal,
                    const uint8_t *string, size_t string_len,
@@ -333,7 +335,8 @@ uint64_t rcds_trail_order(const uint8_t *pairs, size_t pairs_len,
  * levels, lengths and trail number can be used is asked by the end that takes
  * it.
  *
- * The time grows in proportion to message_len, whatever the bytes are.
+ * The call ends for all bytes. How long it takes was measured and is not
+ * proved: less than one plain FNV-1a pass over a long message of type 3 to 5.
  */
 uint64_t rcds_message_type(const uint8_t *message, size_t message_len);
 
@@ -489,11 +492,17 @@ uint64_t rcds_query(const uint8_t *state, size_t state_len,
  * Asks 1 to 7, 9, 10, 11, then 12 to 19, in this order: 12 and 14 of an opening,
  * 15 to 17 of a node reply, the others of both.
  *
- * Accepted with answer 0: the session goes on, and the query is a new one.
+ * Accepted with answer 0: the session goes on, and the query is a new one. What
+ * is built by now stands at the start of output. The other bytes of output are
+ * unchanged.
  *
  * Accepted with an answer from 2^32 on: the sender's string is handed over. It
  * stands at the start of output, RCDS_COUNT of the answer is its length, which
  * may be 0, and the session has ended. The bytes after it are unchanged.
+ *
+ * An accepted opening, whatever it answers, leaves the new list at the start of
+ * the shingle table, and every lent byte past it is zero. An accepted node reply
+ * leaves the shingle table unchanged.
  *
  * Refused by 1 to 11: nothing is changed. Refused by 12 to 19: the session has
  * ended, every lent byte of output is zero, and the shingle table is unchanged.
