@@ -1,9 +1,11 @@
 //! Buffers that are lent to a call, between guard bytes. `RCDS_LENT` in the environment says where they
-//! stand otherwise; what is drawn, and so every case, stays the same.
+//! stand otherwise; what is drawn, and so every case, stays the same. A buffer of 0 bytes is lent as null,
+//! and buffers for reading that hold the same bytes are lent as one memory.
 
 use crate::failure::Difference;
 use crate::pages::Pages;
 use crate::random::Random;
+use std::ptr::{null, null_mut};
 use std::sync::OnceLock;
 
 /// Bytes on each side of a lent buffer that no call may change.
@@ -90,7 +92,11 @@ impl Lent {
         }
     }
 
+    /// Where the buffer stands; null, if it has no bytes.
     pub fn pointer(&mut self) -> *mut u8 {
+        if self.length == 0 {
+            return null_mut();
+        }
         let first = match &mut self.memory {
             Memory::Vector(bytes) => bytes.as_mut_ptr(),
             Memory::Pages(pages) => pages.pointer(),
@@ -139,6 +145,40 @@ impl Lent {
     }
 }
 
+/// Where buffers stand that a call is lent for reading: those with the same bytes in the first one's memory.
+pub fn for_reading<const N: usize>(lent: [&mut Lent; N]) -> [*const u8; N] {
+    let mut pointers = [null(); N];
+    for k in 0..N {
+        let same = (0..k).find(|&i| lent[i].bytes() == lent[k].bytes());
+        pointers[k] = lent[same.unwrap_or(k)].pointer();
+    }
+    pointers
+}
+
+/// Whether two of the buffers stand in one memory.
+pub fn is_shared(pointers: &[*const u8]) -> bool {
+    let again = |k: usize| !pointers[k].is_null() && pointers[..k].contains(&pointers[k]);
+    (0..pointers.len()).any(again)
+}
+
+/// A lent piece as a function sees it that is wrong on purpose: null stands for no bytes.
+#[cfg(test)]
+pub unsafe fn part<'a>(at: *const u8, length: usize) -> &'a [u8] {
+    match at.is_null() {
+        true => &[],
+        false => std::slice::from_raw_parts(at, length),
+    }
+}
+
+/// The same of one that is lent for writing.
+#[cfg(test)]
+pub unsafe fn part_mut<'a>(at: *mut u8, length: usize) -> &'a mut [u8] {
+    match at.is_null() {
+        true => &mut [],
+        false => std::slice::from_raw_parts_mut(at, length),
+    }
+}
+
 /// The first place in which two buffers of one length differ.
 fn first_difference(expected: &[u8], given: &[u8]) -> Option<usize> {
     if expected == given {
@@ -149,7 +189,7 @@ fn first_difference(expected: &[u8], given: &[u8]) -> Option<usize> {
 
 #[cfg(test)]
 mod tests {
-    use super::Lent;
+    use super::{for_reading, is_shared, Lent};
     use crate::random::Random;
     use std::os::unix::process::ExitStatusExt;
     use std::process::Command;
@@ -178,6 +218,26 @@ mod tests {
         let status = child.output().expect("it can be run").status;
         assert!(status.success() || status.signal().is_some(), "{status}");
         status.signal()
+    }
+
+    #[test]
+    fn no_bytes_are_null_and_equal_ones_stand_in_one_memory() {
+        let mut random = Random::of_case(1, 1);
+        let mut lend = |bytes: &[u8]| Lent::new("piece", bytes, 3, &mut random);
+        let [mut none, mut one, mut other, mut same] = [&[][..], &[7], &[8], &[7]].map(&mut lend);
+        let mut also_none = lend(&[]);
+        assert!(none.pointer().is_null());
+        let pointers = for_reading([&mut none, &mut one, &mut other, &mut same, &mut also_none]);
+        assert!(pointers[0].is_null() && pointers[4].is_null());
+        assert_eq!(pointers[1], pointers[3]);
+        assert_ne!(pointers[1], pointers[2]);
+        assert!(is_shared(&pointers));
+        assert!(!is_shared(&for_reading([
+            &mut none,
+            &mut one,
+            &mut other,
+            &mut also_none
+        ])));
     }
 
     #[test]

@@ -6,6 +6,7 @@
 use super::cases::count;
 use super::compare::MessageType;
 use super::report::run;
+use crate::lent::part;
 
 const NONE: u8 = 0;
 const FIRST_PART_9_BITS: u8 = 1;
@@ -268,11 +269,11 @@ fn answer(fault: u8, message: &[u8]) -> u64 {
 
 /// The function with one fault, as C would call it.
 unsafe extern "C" fn faulty<const FAULT: u8>(message: *const u8, message_len: usize) -> u64 {
-    let answer = answer(FAULT, std::slice::from_raw_parts(message, message_len));
+    let answer = answer(FAULT, part(message, message_len));
     // The guard bytes and the message come from a vector, so these writes stay in its memory.
     match FAULT {
         MESSAGE_CHANGED if message_len > 0 => *message.cast_mut() ^= 1,
-        PAST_THE_MESSAGE => *message.cast_mut().add(message_len) ^= 1,
+        PAST_THE_MESSAGE if message_len > 0 => *message.cast_mut().add(message_len) ^= 1,
         _ => {}
     }
     answer

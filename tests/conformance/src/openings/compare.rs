@@ -3,11 +3,12 @@
 use super::cases::Case;
 use crate::clock::timed;
 use crate::failure::{Difference, Failure};
-use crate::lent::Lent;
+use crate::lent::{for_reading, is_shared, Lent};
 use crate::random::Random;
 use reference::cell_table;
 use reference::opening::{closed, difference, single, takings, Closed, NotSingle, Takings};
 use reference::rcds::{rcds_sketch_open, ACCEPTED};
+use reference::shingle::Shingle;
 use reference::shingle_table;
 use std::collections::BTreeSet;
 
@@ -19,11 +20,15 @@ pub type SketchOpen =
 #[derive(Debug)]
 pub struct Done {
     pub answer: u64,
+    /// Whether the two cell tables were one memory.
+    pub shared: bool,
     /// How many shingles were taken, and whether they were as many as may be.
     pub taken: usize,
     pub all_takings: bool,
     /// Why the sketch does not open.
     pub closed: Vec<Closed>,
+    /// Whether positive shingles of the own list are all that is amiss.
+    pub own_alone: bool,
     /// Of the cells that are left with number 1 or −1: why one is not single, where that is the only
     /// reason.
     pub not_single: BTreeSet<NotSingle>,
@@ -47,14 +52,15 @@ fn call(case: &Case, function: SketchOpen) -> Result<Done, Difference> {
     let mut theirs = Lent::new("sender's cell table", &case.theirs, of_theirs, random);
     let mut own = Lent::new("own cell table", &case.own, of_own, random);
     let mut shingles = Lent::new("shingle table", &case.shingles, of_shingles, random);
-    // All pieces are there in full, and they do not overlap: each stands in memory of its own.
+    let read = for_reading([&mut theirs, &mut own]);
+    // All pieces are there in full, and the one for writing stands in memory of its own.
     let given = timed(|| unsafe {
         function(
             case.levels,
             case.width,
-            theirs.pointer(),
+            read[0],
             theirs.length(),
-            own.pointer(),
+            read[1],
             own.length(),
             shingles.pointer(),
             shingles.length(),
@@ -74,7 +80,20 @@ fn call(case: &Case, function: SketchOpen) -> Result<Done, Difference> {
     shingles.expect(&expected_shingles)?;
     theirs.expect_unchanged()?;
     own.expect_unchanged()?;
-    Ok(done(case, given))
+    Ok(Done {
+        shared: is_shared(&read),
+        ..done(case, given)
+    })
+}
+
+/// Whether positive shingles of the own list are all that is amiss: with the others alone the sketch would
+/// open. (Their pairs are in the new list twice, so theirs is never the only condition that fails.)
+pub fn positive_own_alone(takings: &Takings, own: &[Shingle]) -> bool {
+    let mut others = takings.clone();
+    others
+        .taken
+        .retain(|taken| taken.negative || !own.contains(&taken.shingle));
+    others != *takings && closed(&others, own).is_empty()
 }
 
 /// What the case came to, from the reference.
@@ -82,9 +101,11 @@ fn done(case: &Case, answer: u64) -> Done {
     if answer < ACCEPTED && answer != 14 {
         return Done {
             answer,
+            shared: false,
             taken: 0,
             all_takings: false,
             closed: Vec::new(),
+            own_alone: false,
             not_single: BTreeSet::new(),
         };
     }
@@ -95,7 +116,9 @@ fn done(case: &Case, answer: u64) -> Done {
         levels,
         width,
     );
-    let closed = closed(&takings, &shingle_table::read(&case.shingles));
+    let list = shingle_table::read(&case.shingles);
+    let closed = closed(&takings, &list);
+    let own_alone = positive_own_alone(&takings, &list);
     let Takings { taken, left } = takings;
     let mut not_single = BTreeSet::new();
     for (i, cell) in left.iter().enumerate() {
@@ -107,9 +130,11 @@ fn done(case: &Case, answer: u64) -> Done {
     }
     Done {
         answer,
+        shared: false,
         all_takings: taken.len() == 3 * width as usize,
         taken: taken.len(),
         closed,
+        own_alone,
         not_single,
     }
 }

@@ -5,6 +5,7 @@
 use super::cases::count;
 use super::compare::SketchOpen;
 use super::report::run;
+use crate::lent::{part, part_mut};
 use reference::shingle::Shingle;
 use reference::sketch::{f, places, sketch};
 
@@ -475,16 +476,16 @@ unsafe extern "C" fn faulty<const FAULT: u8>(
         FAULT,
         levels,
         width,
-        std::slice::from_raw_parts(theirs, theirs_len),
-        std::slice::from_raw_parts(own, own_len),
-        std::slice::from_raw_parts_mut(shingles, shingles_len),
+        part(theirs, theirs_len),
+        part(own, own_len),
+        part_mut(shingles, shingles_len),
     );
     // The guard bytes and the cells come from vectors, so these writes stay in their memory.
     match FAULT {
         THEIRS_CHANGED if theirs_len > 0 => *theirs.cast_mut() ^= 1,
         OWN_CHANGED if own_len > 0 => *own.cast_mut() ^= 1,
-        PAST_THE_SHINGLES => *shingles.add(shingles_len) ^= 1,
-        BEFORE_THE_SHINGLES => *shingles.sub(1) ^= 1,
+        PAST_THE_SHINGLES if shingles_len > 0 => *shingles.add(shingles_len) ^= 1,
+        BEFORE_THE_SHINGLES if shingles_len > 0 => *shingles.sub(1) ^= 1,
         _ => {}
     }
     answer

@@ -10,7 +10,7 @@ mod report;
 mod faults;
 
 pub use cases::count;
-pub use compare::SketchOpen;
+pub use compare::{positive_own_alone, SketchOpen};
 
 use crate::failure::Failure;
 

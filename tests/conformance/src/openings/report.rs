@@ -22,6 +22,10 @@ pub struct Report {
     refused: BTreeMap<u64, usize>,
     /// Reasons of those that 14 refused: in how many cases, and in how many as the only one.
     closed: BTreeMap<Closed, [usize; 2]>,
+    /// Cases that 14 refused for positive shingles of the own list and nothing else.
+    own_alone: usize,
+    /// Cases in which both cell tables were one memory.
+    shared: usize,
     /// Cases that 14 refused with a cell that is not single for this reason alone.
     not_single: BTreeMap<NotSingle, usize>,
     /// Cases in which 3q shingles were taken.
@@ -47,6 +51,8 @@ impl Report {
         self.cases += 1;
         self.families.entry(family).or_default()[usize::from(refused)] += 1;
         self.all_takings += usize::from(done.all_takings);
+        self.own_alone += usize::from(done.own_alone);
+        self.shared += usize::from(done.shared);
         if !refused {
             self.opened += 1;
             self.full += usize::from(done.answer == ACCEPTED + 4_096);
@@ -78,6 +84,8 @@ impl Report {
         assert!(self.taken.iter().all(|&count| count > 0), "sizes opened");
         assert!(self.full > 0, "no new list had 4,096 shingles");
         assert!(self.all_takings > 0, "no case had 3q takings");
+        assert!(self.own_alone > 0, "none for positive own ones alone");
+        assert!(self.shared > 0, "no two cell tables were one memory");
         for closed in [
             Closed::CellsLeft,
             Closed::TakenTwice,
@@ -139,7 +147,7 @@ impl fmt::Display for Report {
             .map(|(family, [opened, refused])| format!("{family:?} {opened} and {refused}"));
         write!(
             f,
-            "{} cases as the reference has them: opened {} (nothing taken {}, 1 to 29 shingles {}, 30 to 99 {}, more {}; {} to 4,096 shingles); refused {}; by 14, and for one reason alone: {}; with a cell that is not single for one reason alone: {}; {} with 3q takings; opened and refused of each family: {}",
+            "{} cases as the reference has them: opened {} (nothing taken {}, 1 to 29 shingles {}, 30 to 99 {}, more {}; {} to 4,096 shingles); refused {}; by 14, and for one reason alone: {}; for positive shingles of the own list and nothing else {}; with a cell that is not single for one reason alone: {}; {} with 3q takings; {} with both cell tables in one memory; opened and refused of each family: {}",
             self.cases,
             self.opened,
             self.taken[0],
@@ -149,8 +157,10 @@ impl fmt::Display for Report {
             self.full,
             list(refused.collect()),
             list(closed.collect()),
+            self.own_alone,
             list(not_single.collect()),
             self.all_takings,
+            self.shared,
             list(families.collect()),
         )
     }

@@ -4,7 +4,7 @@ use super::cases::Case;
 use super::setup::held;
 use crate::clock::timed;
 use crate::failure::{Difference, Failure};
-use crate::lent::Lent;
+use crate::lent::{for_reading, Lent};
 use crate::random::Random;
 use reference::message::{parse, Body, Message};
 use reference::opening::MOST_SHINGLES;
@@ -82,20 +82,28 @@ fn call(case: &Case, function: Reply) -> Result<Done, Difference> {
     let mut cells = Lent::new("cell table", &case.lent.cells, of_cells, random);
     let mut message = Lent::new("message", &case.message, of_message, random);
     let mut out = Lent::new("buffer", &before, of_out, random);
-    // All pieces are there in full, and they do not overlap: each stands in memory of its own.
+    let read = for_reading([
+        &mut state,
+        &mut string,
+        &mut nodes,
+        &mut shingles,
+        &mut cells,
+        &mut message,
+    ]);
+    // All pieces are there in full, and the one for writing stands in memory of its own.
     let given = timed(|| unsafe {
         function(
-            state.pointer(),
+            read[0],
             state.length(),
-            string.pointer(),
+            read[1],
             string.length(),
-            nodes.pointer(),
+            read[2],
             nodes.length(),
-            shingles.pointer(),
+            read[3],
             shingles.length(),
-            cells.pointer(),
+            read[4],
             cells.length(),
-            message.pointer(),
+            read[5],
             message.length(),
             out.pointer(),
             out.length(),
@@ -132,7 +140,10 @@ fn call(case: &Case, function: Reply) -> Result<Done, Difference> {
 
 /// What the reply to a query is compared with.
 fn compared(case: &Case) -> Compared {
-    match (case.altered(), case.lent.shingle_list().len() > MOST_SHINGLES) {
+    match (
+        case.altered(),
+        case.lent.shingle_list().len() > MOST_SHINGLES,
+    ) {
         (false, _) => Compared::Exact,
         (true, false) => Compared::Altered,
         (true, true) => Compared::LongList,

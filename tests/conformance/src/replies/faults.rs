@@ -6,6 +6,7 @@ use super::cases::count;
 use super::compare::Reply;
 use super::report::run;
 use super::setup::held;
+use crate::lent::{part, part_mut};
 use reference::fnv::fnv1a;
 use reference::lent::Lent;
 use reference::message::{encode, parse, Body, Message, Opening};
@@ -401,14 +402,14 @@ unsafe extern "C" fn faulty<const FAULT: u8>(
     out_len: usize,
 ) -> u64 {
     let lent = Lent {
-        string: std::slice::from_raw_parts(string, string_len).to_vec(),
-        nodes: std::slice::from_raw_parts(nodes, nodes_len).to_vec(),
-        shingles: std::slice::from_raw_parts(shingles, shingles_len).to_vec(),
-        cells: std::slice::from_raw_parts(cells, cells_len).to_vec(),
+        string: part(string, string_len).to_vec(),
+        nodes: part(nodes, nodes_len).to_vec(),
+        shingles: part(shingles, shingles_len).to_vec(),
+        cells: part(cells, cells_len).to_vec(),
     };
-    let state_bytes = std::slice::from_raw_parts(state, state_len);
-    let message_bytes = std::slice::from_raw_parts(message, message_len);
-    let buffer = std::slice::from_raw_parts_mut(out, out_len);
+    let state_bytes = part(state, state_len);
+    let message_bytes = part(message, message_len);
+    let buffer = part_mut(out, out_len);
     let mut given = answer(FAULT, state_bytes, &lent, message_bytes, buffer);
     if FAULT >= FREE_REPLY_NO_MESSAGE {
         given = free_fault(FAULT, &lent, given, buffer);
@@ -421,8 +422,8 @@ unsafe extern "C" fn faulty<const FAULT: u8>(
         SHINGLES_CHANGED if shingles_len > 0 => *shingles.cast_mut() ^= 1,
         CELLS_CHANGED if cells_len > 0 => *cells.cast_mut() ^= 1,
         MESSAGE_CHANGED if message_len > 0 => *message.cast_mut() ^= 1,
-        PAST_THE_BUFFER => *out.add(out_len) ^= 1,
-        BEFORE_THE_BUFFER => *out.sub(1) ^= 1,
+        PAST_THE_BUFFER if out_len > 0 => *out.add(out_len) ^= 1,
+        BEFORE_THE_BUFFER if out_len > 0 => *out.sub(1) ^= 1,
         _ => {}
     }
     given

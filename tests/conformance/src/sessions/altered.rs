@@ -241,6 +241,13 @@ pub fn state(state: &mut Vec<u8>, ids: &[u64], random: &mut Random) {
     }
 }
 
+/// Another announced length in a receiver's state that is long enough.
+pub fn announce(state: &mut [u8], length: u64) {
+    if state.len() >= STATE_BYTES {
+        set_row(state, SIZE, length);
+    }
+}
+
 /// Another level or another id in one of the first so many places.
 fn place(state: &mut [u8], places: u64, random: &mut Random) {
     let k = HEADER_ROWS + 2 * random.between(0, places - 1) as usize;

@@ -7,7 +7,11 @@ use crate::failure::first_bytes;
 use crate::random::{family_of, together, Random};
 use crate::settings::{edge_settings, many_nodes, most_nodes, NOMINALS};
 use reference::lent::Lent as Memory;
-use reference::receiver_state::STATE_BYTES;
+use reference::message::{encode, Body, Message};
+use reference::rcds::ACCEPTED;
+use reference::receiver::{Receiver, Stage, SESSIONS};
+use reference::receiver_state::{self, STATE_BYTES};
+use reference::reply::reply;
 use reference::sender;
 use reference::settings::Settings;
 use std::fmt;
@@ -115,10 +119,16 @@ pub enum Family {
     MostReplies,
     /// A forged sender that never comes to an end.
     Endless,
+    /// Pieces for reading that hold the same bytes: a string that is the end's state or the message.
+    OneMemory,
+    /// States that announce more than 65,536 bytes, and outputs that hold them.
+    Announced,
+    /// Compositions whose counts add up to 33, and all else is right.
+    Sum,
 }
 
 /// The families, and how many cases each has.
-pub const FAMILIES: [(Family, usize); 16] = [
+pub const FAMILIES: [(Family, usize); 19] = [
     (Family::Plain, 11 * 7 * 4 * 12),
     (Family::Link, 4_000),
     (Family::Forged, 7_000),
@@ -135,6 +145,9 @@ pub const FAMILIES: [(Family, usize); 16] = [
     (Family::Long, 90),
     (Family::MostReplies, 4),
     (Family::Endless, 4),
+    (Family::OneMemory, 132),
+    (Family::Announced, 60),
+    (Family::Sum, 60),
 ];
 
 /// How many cases a run has.
@@ -153,7 +166,7 @@ pub fn case(seed: u64, number: usize) -> Case {
     let (pair, sender, own) = two_strings(family, &settings, content, length, random);
     let (width, setup_width) = widths(family, place, random);
     let output = output(family, sender.len(), random);
-    Case {
+    let mut case = Case {
         seed,
         number,
         family,
@@ -165,6 +178,61 @@ pub fn case(seed: u64, number: usize) -> Case {
         receiver: lent(family, own, width, STATE_BYTES, random),
         output,
         course: course(family, random),
+    };
+    if family == Family::OneMemory {
+        one_memory(&mut case, place);
+    }
+    case
+}
+
+/// One end's string becomes what another piece holds that is lent for reading with it: the sender's state or
+/// the query it gets, the receiver's state or the opening.
+fn one_memory(case: &mut Case, place: usize) {
+    let session = (case.session % SESSIONS) as u32;
+    let opening_query = encode(&Message {
+        session,
+        body: Body::OpeningQuery,
+    });
+    let state = Receiver {
+        settings: case.settings,
+        width: case.width,
+        session: u64::from(session),
+        stage: Stage::BeforeOpening,
+        length: 0,
+        root: 0,
+        built: 0,
+        replies: 0,
+        pile: Vec::new(),
+    };
+    case.sender.1.truncate(sender::STATE_BYTES);
+    case.receiver.1.truncate(STATE_BYTES);
+    match place % 4 {
+        0 => case.sender.0.string = opening_query,
+        1 => {
+            let mut bytes = vec![0; STATE_BYTES];
+            receiver_state::write(&state, &mut bytes);
+            // Both states begin with the five settings.
+            case.sender.0.string = bytes[..sender::STATE_BYTES].to_vec();
+        }
+        2 => {
+            let mut bytes = vec![0; STATE_BYTES];
+            receiver_state::write(&state, &mut bytes);
+            case.receiver.0.string = bytes;
+        }
+        _ => {
+            let mut memory = case.sender.0.clone();
+            memory.set_up(&case.settings, case.width);
+            let mut opening = vec![0; 14_000];
+            let answer = reply(
+                &case.settings,
+                case.width,
+                &memory,
+                &opening_query,
+                &mut opening,
+            );
+            opening.truncate(answer.saturating_sub(ACCEPTED) as usize);
+            case.receiver.0.string = opening;
+        }
     }
 }
 
@@ -275,6 +343,8 @@ fn output(family: Family, needed: usize, random: &mut Random) -> Vec<u8> {
     let length = match (family, random.between(0, 19)) {
         (Family::Plain | Family::Long | Family::MostReplies | Family::Endless, 0..=9) => needed,
         (Family::Plain | Family::Long | Family::MostReplies | Family::Endless, _) => longer,
+        (Family::Announced, _) => 65_537 + random.by_size(0, 300) as usize,
+        (Family::OneMemory, _) => needed.max(40),
         (_, 0) => shorter,
         (_, 1) => 65_536 + random.one_of(&[0, 1, 100]),
         (_, 2..=9) => needed,
@@ -300,7 +370,7 @@ fn lent(
     let mut length = |piece: u64, limit: usize, entry: usize| match short == Some(piece) {
         true => {
             let any = random.by_size(1, limit as u64) as usize;
-            limit - random.one_of(&[1, any])
+            limit - random.one_of(&[1, any, limit])
         }
         false => limit + random.one_of(&[0, 0, 0, 1, entry, 3 * entry + 1]),
     };
@@ -327,7 +397,7 @@ fn course(family: Family, random: &mut Random) -> Course {
     };
     let chance = random.one_of(&[3, 10, 30, 60]);
     match family {
-        Family::Plain | Family::ManyTrails | Family::Middle => Course {
+        Family::Plain | Family::ManyTrails | Family::Middle | Family::OneMemory => Course {
             rounds: 120,
             ..Course::default()
         },
@@ -388,7 +458,11 @@ fn course(family: Family, random: &mut Random) -> Course {
             rounds: 4_097,
             ..Course::default()
         },
-        Family::MostReplies | Family::Endless => Course {
+        Family::Announced => Course {
+            rounds: 2,
+            ..Course::default()
+        },
+        Family::MostReplies | Family::Endless | Family::Sum => Course {
             rounds: 4_200,
             ..Course::default()
         },

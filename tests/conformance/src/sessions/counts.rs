@@ -1,6 +1,7 @@
 //! What the calls of sessions came to.
 
 use super::forged::Forgery;
+use crate::lent::{is_shared, Lent};
 use reference::rcds::ACCEPTED;
 use std::collections::BTreeMap;
 
@@ -49,6 +50,38 @@ impl Call {
     }
 }
 
+/// A condition that refused a message, all others of its question being met.
+#[derive(Clone, Copy, Debug, PartialEq, Eq, PartialOrd, Ord)]
+pub enum Alone {
+    /// 13 of a node reply: over 65,536 bytes announced, within the buffer.
+    Limit,
+    /// 14: a positive shingle in the own list.
+    PositiveOwn,
+    /// 17: counts that add up to more than 32.
+    Sum,
+}
+
+/// All of them.
+pub const ALONE: [Alone; 3] = [Alone::Limit, Alone::PositiveOwn, Alone::Sum];
+
+/// How pieces were lent to a call.
+#[derive(Clone, Copy, Debug, PartialEq, Eq, PartialOrd, Ord)]
+pub enum Lending {
+    /// One for reading, and one for writing, of 0 bytes and null.
+    NullRead,
+    NullWritten,
+    /// Two for reading in one memory.
+    Shared,
+}
+
+/// The lendings that the call can have: a setup reads one piece alone.
+pub fn lendings(call: Call) -> &'static [Lending] {
+    match call {
+        Call::SenderSetup | Call::ReceiverSetup => &[Lending::NullRead, Lending::NullWritten],
+        _ => &[Lending::NullRead, Lending::NullWritten, Lending::Shared],
+    }
+}
+
 /// Numbers of one session, or of many.
 #[derive(Clone, Debug, Default)]
 pub struct Counts {
@@ -75,6 +108,10 @@ pub struct Counts {
     /// Calls over altered tables, strings or outputs, and over altered states.
     pub altered_memory: usize,
     pub altered_states: usize,
+    /// Messages refused by one condition alone.
+    pub alone: BTreeMap<Alone, usize>,
+    /// Calls with pieces lent so.
+    pub lendings: BTreeMap<(Call, Lending), usize>,
 }
 
 impl Counts {
@@ -83,6 +120,21 @@ impl Counts {
             .answers
             .entry((call, answer.min(ACCEPTED)))
             .or_default() += 1;
+    }
+
+    /// Counts how a call's pieces are lent: where those for reading stand, and those for writing.
+    pub fn lent(&mut self, call: Call, read: &[*const u8], written: &[&Lent]) {
+        let lendings = [
+            (Lending::NullRead, read.iter().any(|at| at.is_null())),
+            (
+                Lending::NullWritten,
+                written.iter().any(|lent| lent.length() == 0),
+            ),
+            (Lending::Shared, is_shared(read)),
+        ];
+        for (lending, _) in lendings.into_iter().filter(|(_, is)| *is) {
+            *self.lendings.entry((call, lending)).or_default() += 1;
+        }
     }
 
     /// How often a call gave this answer.
@@ -95,6 +147,8 @@ impl Counts {
         add_each(&mut self.answers, &other.answers);
         add_each(&mut self.replied, &other.replied);
         add_each(&mut self.accepted, &other.accepted);
+        add_each(&mut self.alone, &other.alone);
+        add_each(&mut self.lendings, &other.lendings);
         for (kind, [accepted, refused]) in &other.forged {
             let counts = self.forged.entry(*kind).or_default();
             counts[0] += accepted;

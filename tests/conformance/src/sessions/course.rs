@@ -91,7 +91,12 @@ impl<'a> Session<'a> {
             self.course.rounds = 1;
         }
         match self.case.family {
-            Family::Endless => endless::run(&mut self.ends)?,
+            Family::Endless => endless::run(&mut self.ends, None)?,
+            Family::Sum => {
+                let level = self.case.number as u64 % settings.levels.max(1);
+                endless::run(&mut self.ends, Some(level as u32))?;
+            }
+            Family::Announced => self.announced()?,
             _ => {
                 for _ in 0..self.course.turns {
                     self.turn()?;
@@ -416,6 +421,20 @@ impl<'a> Session<'a> {
             self.take(&reply)?;
         }
         Ok(())
+    }
+
+    /// After the opening, the state announces more than 65,536 bytes, which the output holds.
+    fn announced(&mut self) -> Outcome<()> {
+        let rounds = self.course.rounds;
+        self.course.rounds = 1;
+        self.finish()?;
+        let room = self.ends.output_bytes.len() as u64;
+        let length = self.random.between(65_537, room);
+        let length = self.random.one_of(&[65_537, room, length]);
+        altered::announce(&mut self.ends.receiver.state_bytes, length);
+        self.ends.lend_again();
+        self.course.rounds = rounds;
+        self.finish()
     }
 
     /// Late messages, and a query that may be there no longer.

@@ -1,5 +1,5 @@
 //! A forged sender that never comes to an end: every node has 32 children, and every block of the last
-//! level is empty. Question 15 ends it after 4,097 replies.
+//! level is empty. Question 15 ends it after 4,097 replies. Or question 17, where a node has 33.
 
 use super::lockstep::{Lockstep, Outcome};
 use reference::message::{encode, parse, Body, Message};
@@ -13,8 +13,9 @@ const ENDLESS: u64 = 0x1234_5678_9abc_def1;
 /// More bytes than the messages have.
 const ENOUGH: usize = 14_000;
 
-/// Takes the forged messages until one is refused, or the string is handed over.
-pub fn run(ends: &mut Lockstep) -> Outcome<()> {
+/// Takes the forged messages until one is refused, or the string is handed over. The nodes of one level, if
+/// there is one that is said, have 33 children.
+pub fn run(ends: &mut Lockstep, too_many: Option<u32>) -> Outcome<()> {
     let mut query = ends.query(24)?;
     let opening = match &query {
         Some(query) => ends.reply(query, ENOUGH)?,
@@ -28,7 +29,8 @@ pub fn run(ends: &mut Lockstep) -> Outcome<()> {
         query = ends.query(24)?;
         let list = ends.receiver.memory.shingle_list();
         let levels = ends.receiver.state_bytes[23];
-        let reply = query.and_then(|query| forged_reply(&query, &list, u32::from(levels)));
+        let reply =
+            query.and_then(|query| forged_reply(&query, &list, u32::from(levels), too_many));
         let Some(reply) = reply else {
             return Ok(());
         };
@@ -37,7 +39,7 @@ pub fn run(ends: &mut Lockstep) -> Outcome<()> {
     Ok(())
 }
 
-/// The opening of a list that has, at each level from 1 on, the pairs of 32 and more equal children.
+/// The opening of a list that has, at each level from 1 on, the pairs of 33 and more equal children.
 fn forged_opening(genuine: &[u8], ends: &Lockstep) -> Option<Vec<u8>> {
     let Message { session, body } = parse(genuine)?;
     let Body::Opening(mut opening) = body else {
@@ -49,7 +51,7 @@ fn forged_opening(genuine: &[u8], ends: &Lockstep) -> Option<Vec<u8>> {
             level,
             previous,
             own: ENDLESS,
-            count: 31,
+            count: 32,
         }));
     }
     opening.cells = sketch(&list, u64::from(opening.width));
@@ -58,8 +60,13 @@ fn forged_opening(genuine: &[u8], ends: &Lockstep) -> Option<Vec<u8>> {
     Some(encode(&Message { session, body }))
 }
 
-/// 32 equal children; at the last level no bytes.
-fn forged_reply(query: &[u8], list: &[Shingle], levels: u32) -> Option<Vec<u8>> {
+/// 32 equal children, or one more; at the last level no bytes.
+fn forged_reply(
+    query: &[u8],
+    list: &[Shingle],
+    levels: u32,
+    too_many: Option<u32>,
+) -> Option<Vec<u8>> {
     let Message { session, body } = parse(query)?;
     let Body::NodeQuery { level, id } = body else {
         return None;
@@ -69,12 +76,13 @@ fn forged_reply(query: &[u8], list: &[Shingle], levels: u32) -> Option<Vec<u8>> 
         let index = list.iter().position(|shingle| shingle.pair() == pair)? as u32;
         Some(Reference { index, count })
     };
+    let equal = 31 + u32::from(too_many == Some(level));
     let body = match level < levels {
         true => Body::Composition {
             level,
             id,
             number: 0,
-            references: vec![reference(0, 1)?, reference(ENDLESS, 31)?],
+            references: vec![reference(0, 1)?, reference(ENDLESS, equal)?],
         },
         false => Body::Literal {
             level,

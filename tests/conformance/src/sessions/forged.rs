@@ -31,8 +31,9 @@ pub enum Forgery {
     /// The root and the length of a node that the receiver has.
     OwnRoot,
     Cells,
-    /// The cells of a list with something else in it.
+    /// The cells of a list with something else in it, and of the own list with one shingle once more.
     OtherList,
+    OwnTwice,
     /// A reply to a node's query: a none, a literal of any bytes, one of all bytes that are left, a
     /// composition of another number, with other counts or references, or of any references.
     None,
@@ -55,13 +56,14 @@ const OF_ANY: [Forgery; 8] = [
     Forgery::AnyMessage,
     Forgery::AnyBytes,
 ];
-const OF_OPENINGS: [Forgery; 6] = [
+const OF_OPENINGS: [Forgery; 7] = [
     Forgery::Settings,
     Forgery::Length,
     Forgery::Root,
     Forgery::OwnRoot,
     Forgery::Cells,
     Forgery::OtherList,
+    Forgery::OwnTwice,
 ];
 const OF_NODES: [Forgery; 7] = [
     Forgery::None,
@@ -204,6 +206,11 @@ fn change_opening(kind: Forgery, opening: &mut Opening, known: &Known, random: &
             };
         }
         Forgery::OtherLevel | Forgery::Cells => other_cells(opening, random),
+        Forgery::OwnTwice if !known.list.is_empty() => {
+            let again = random.one_of(known.list);
+            let list = [known.list, &[again]].concat();
+            opening.cells = sketch(&list, u64::from(opening.width));
+        }
         _ => opening.cells = sketch(&other_list(known.list, random), u64::from(opening.width)),
     }
 }

@@ -2,15 +2,17 @@
 //! same bytes, and compared at once.
 
 use super::calls::Calls;
-use super::counts::{Call, Counts};
+use super::counts::{Alone, Call, Counts};
 use super::end::{piece, End};
+use super::why;
 use crate::clock::timed;
 use crate::failure::Difference;
-use crate::lent::Lent;
+use crate::lent::{for_reading, Lent};
 use crate::random::Random;
 use crate::replies::setup::held;
-use reference::message::{parse, Body};
+use reference::message::{parse, Body, Message};
 use reference::rcds::{self, ACCEPTED};
+use reference::receiver::Receiver;
 use reference::receiver_state::{self, HEADER_ROWS};
 use reference::reply::reply;
 use reference::settings::Settings;
@@ -106,6 +108,9 @@ impl<'a> Lockstep<'a> {
 
     pub fn set_up_sender(&mut self, settings: &Settings, width: u64) -> Outcome<u64> {
         let end = &mut self.sender;
+        let written = [&end.nodes, &end.shingles, &end.cells, &end.state];
+        let read = end.string.pointer().cast_const();
+        self.counts.lent(Call::SenderSetup, &[read], &written);
         // All pieces are there in full, and they do not overlap: each stands in memory of its own.
         let given = timed(|| unsafe {
             (self.calls.sender_setup)(
@@ -147,6 +152,9 @@ impl<'a> Lockstep<'a> {
         session: u64,
     ) -> Outcome<u64> {
         let end = &mut self.receiver;
+        let written = [&end.nodes, &end.shingles, &end.cells, &end.state];
+        let read = end.string.pointer().cast_const();
+        self.counts.lent(Call::ReceiverSetup, &[read], &written);
         // As above.
         let given = timed(|| unsafe {
             (self.calls.receiver_setup)(
@@ -180,20 +188,29 @@ impl<'a> Lockstep<'a> {
         let mut out = piece("buffer", &expected_out, &mut self.random);
         let mut lent = piece("message", message, &mut self.random);
         let end = &mut self.sender;
-        // As above.
+        let read = for_reading([
+            &mut end.state,
+            &mut end.string,
+            &mut end.nodes,
+            &mut end.shingles,
+            &mut end.cells,
+            &mut lent,
+        ]);
+        self.counts.lent(Call::Reply, &read, &[&out]);
+        // All pieces are there in full, and the one for writing stands in memory of its own.
         let given = timed(|| unsafe {
             (self.calls.reply)(
-                end.state.pointer(),
+                read[0],
                 end.state.length(),
-                end.string.pointer(),
+                read[1],
                 end.string.length(),
-                end.nodes.pointer(),
+                read[2],
                 end.nodes.length(),
-                end.shingles.pointer(),
+                read[3],
                 end.shingles.length(),
-                end.cells.pointer(),
+                read[4],
                 end.cells.length(),
-                lent.pointer(),
+                read[5],
                 lent.length(),
                 out.pointer(),
                 out.length(),
@@ -220,18 +237,26 @@ impl<'a> Lockstep<'a> {
         let mut out = piece("buffer", &expected_out, &mut self.random);
         self.keep_rows();
         let end = &mut self.receiver;
+        let read = for_reading([
+            &mut end.state,
+            &mut end.string,
+            &mut end.nodes,
+            &mut end.shingles,
+            &mut end.cells,
+        ]);
+        self.counts.lent(Call::Query, &read, &[&out]);
         // As above.
         let given = timed(|| unsafe {
             (self.calls.query)(
-                end.state.pointer(),
+                read[0],
                 end.state.length(),
-                end.string.pointer(),
+                read[1],
                 end.string.length(),
-                end.nodes.pointer(),
+                read[2],
                 end.nodes.length(),
-                end.shingles.pointer(),
+                read[3],
                 end.shingles.length(),
-                end.cells.pointer(),
+                read[4],
                 end.cells.length(),
                 out.pointer(),
                 out.length(),
@@ -251,21 +276,25 @@ impl<'a> Lockstep<'a> {
     pub fn take(&mut self, message: &[u8]) -> Outcome<u64> {
         let mut lent = piece("message", message, &mut self.random);
         self.keep_rows();
+        let before = receiver_state::read(&self.receiver.state_bytes);
         let (end, output) = (&mut self.receiver, &mut self.output);
-        // As above.
+        let read = for_reading([&mut end.string, &mut end.nodes, &mut end.cells, &mut lent]);
+        let written = [&end.state, &end.shingles, &*output];
+        self.counts.lent(Call::Take, &read, &written);
+        // All pieces are there in full, and those for writing stand in memory of their own.
         let given = timed(|| unsafe {
             (self.calls.take)(
                 end.state.pointer(),
                 end.state.length(),
-                end.string.pointer(),
+                read[0],
                 end.string.length(),
-                end.nodes.pointer(),
+                read[1],
                 end.nodes.length(),
                 end.shingles.pointer(),
                 end.shingles.length(),
-                end.cells.pointer(),
+                read[2],
                 end.cells.length(),
-                lent.pointer(),
+                read[3],
                 lent.length(),
                 output.pointer(),
                 output.length(),
@@ -283,10 +312,32 @@ impl<'a> Lockstep<'a> {
             .and_then(|()| lent.expect_unchanged())
             .and_then(|()| end.expect());
         let answer = self.compared(Call::Take, (expected, given), message, rest)?;
-        if answer == 0 || answer >= ACCEPTED {
-            self.accepted(answer, message);
+        match answer == 0 || answer >= ACCEPTED {
+            true => self.accepted(answer, message),
+            false => self.refused(answer, &before, message),
         }
         Ok(answer)
+    }
+
+    /// Counts a message that one condition of its question refused, and nothing else.
+    fn refused(&mut self, answer: u64, before: &Receiver, message: &[u8]) {
+        let Some(Message { body, .. }) = parse(message) else {
+            return;
+        };
+        let memory = &self.receiver.memory;
+        let alone = match (answer, &body) {
+            (13, _) => why::limit_alone(before, self.output_bytes.len()).then_some(Alone::Limit),
+            (14, Body::Opening(opening)) => {
+                why::positive_own_alone(before, memory, opening).then_some(Alone::PositiveOwn)
+            }
+            (17, Body::Composition { .. }) => {
+                why::sum_alone(before, &memory.shingle_list(), &body).then_some(Alone::Sum)
+            }
+            _ => None,
+        };
+        if let Some(alone) = alone {
+            *self.counts.alone.entry(alone).or_default() += 1;
+        }
     }
 
     /// Counts an accepted message.

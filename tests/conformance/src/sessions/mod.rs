@@ -11,6 +11,7 @@ mod forged;
 mod lockstep;
 mod report;
 mod strings;
+mod why;
 
 #[cfg(test)]
 mod faults;

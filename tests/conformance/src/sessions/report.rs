@@ -2,7 +2,7 @@
 
 use super::calls::Calls;
 use super::cases::{case, Family, FAMILIES};
-use super::counts::{Call, Counts, CALLS};
+use super::counts::{lendings, Call, Counts, ALONE, CALLS};
 use super::course;
 use super::forged::forgeries;
 use crate::failure::Failure;
@@ -69,9 +69,19 @@ impl Report {
         for (what, count) in some {
             assert!(count > 0, "{what}: none");
         }
+        for alone in ALONE {
+            assert!(counts.alone.contains_key(&alone), "{alone:?} alone: none");
+        }
+        for call in CALLS {
+            for &lending in lendings(call) {
+                let is = counts.lendings.contains_key(&(call, lending));
+                assert!(is, "{}, {lending:?}: none", call.name());
+            }
+        }
+        let never = [Family::Endless, Family::Announced, Family::Sum];
         for (family, _) in FAMILIES {
             let [_, handed] = self.families[&family];
-            assert!(handed > 0 || family == Family::Endless, "{family:?}");
+            assert!(handed > 0 || never.contains(&family), "{family:?}");
         }
     }
 }
@@ -85,7 +95,7 @@ impl fmt::Display for Report {
             .map(|(family, [sessions, handed])| format!("{family:?} {sessions} and {handed}"));
         write!(
             f,
-            "{} sessions, {calls} calls; handed over {} strings ({} the sender's, {} by the opening alone, the longest of {} bytes); at most {} replies accepted and {} nodes pending; accepted types {}; literals above the last level {}, empty {}, compositions of a number above 0 {}; taken over altered memory {} and altered states {}; sessions and hand-overs of each family: {}; forged messages, accepted and refused: {}",
+            "{} sessions, {calls} calls; handed over {} strings ({} the sender's, {} by the opening alone, the longest of {} bytes); at most {} replies accepted and {} nodes pending; accepted types {}; literals above the last level {}, empty {}, compositions of a number above 0 {}; taken over altered memory {} and altered states {}; refused by one condition alone: {}; pieces lent as null and in one memory: {}; sessions and hand-overs of each family: {}; forged messages, accepted and refused: {}",
             self.sessions,
             counts.of(Call::Take, ACCEPTED),
             counts.senders_string,
@@ -99,6 +109,8 @@ impl fmt::Display for Report {
             counts.numbers,
             counts.altered_memory,
             counts.altered_states,
+            alone(counts),
+            lent(counts),
             families.collect::<Vec<_>>().join(", "),
             forged(counts),
         )
@@ -130,6 +142,18 @@ fn forged(counts: &Counts) -> String {
     let kinds =
         kinds.map(|(kind, [accepted, refused])| format!("{kind:?} {accepted} and {refused}"));
     kinds.collect::<Vec<_>>().join(", ")
+}
+
+fn alone(counts: &Counts) -> String {
+    let alone = counts.alone.iter();
+    let alone = alone.map(|(alone, count)| format!("{alone:?} {count}"));
+    alone.collect::<Vec<_>>().join(", ")
+}
+
+fn lent(counts: &Counts) -> String {
+    let lent = counts.lendings.iter();
+    let lent = lent.map(|((call, lending), count)| format!("{} {lending:?} {count}", call.name()));
+    lent.collect::<Vec<_>>().join(", ")
 }
 
 fn list(counts: &BTreeMap<u32, usize>) -> String {

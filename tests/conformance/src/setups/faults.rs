@@ -5,6 +5,7 @@
 use super::cases::count;
 use super::compare::SenderSetup;
 use super::report::run;
+use crate::lent::{part, part_mut};
 use reference::fnv::fnv1a;
 use reference::node_table;
 use reference::settings::Settings;
@@ -390,7 +391,7 @@ unsafe extern "C" fn faulty<const FAULT: u8>(
     state: *mut u8,
     state_len: usize,
 ) -> u64 {
-    let lent = std::slice::from_raw_parts(string, string_len);
+    let lent = part(string, string_len);
     let settings = Settings {
         window,
         fan_out,
@@ -398,19 +399,19 @@ unsafe extern "C" fn faulty<const FAULT: u8>(
         nominal,
     };
     let tables = Tables {
-        nodes: std::slice::from_raw_parts_mut(nodes, nodes_len),
-        shingles: std::slice::from_raw_parts_mut(shingles, shingles_len),
-        cells: std::slice::from_raw_parts_mut(cells, cells_len),
-        state: std::slice::from_raw_parts_mut(state, state_len),
+        nodes: part_mut(nodes, nodes_len),
+        shingles: part_mut(shingles, shingles_len),
+        cells: part_mut(cells, cells_len),
+        state: part_mut(state, state_len),
     };
     let answer = answer(FAULT, &settings, width, lent, tables);
     // The guard bytes and the string come from vectors, so these writes stay in their memory.
     match FAULT {
         STRING_CHANGED if string_len > 0 => *string.cast_mut() ^= 1,
-        PAST_THE_NODES => *nodes.add(nodes_len) ^= 1,
-        BEFORE_THE_SHINGLES => *shingles.sub(1) ^= 1,
-        PAST_THE_CELLS => *cells.add(cells_len) ^= 1,
-        PAST_THE_STATE => *state.add(state_len) ^= 1,
+        PAST_THE_NODES if nodes_len > 0 => *nodes.add(nodes_len) ^= 1,
+        BEFORE_THE_SHINGLES if shingles_len > 0 => *shingles.sub(1) ^= 1,
+        PAST_THE_CELLS if cells_len > 0 => *cells.add(cells_len) ^= 1,
+        PAST_THE_STATE if state_len > 0 => *state.add(state_len) ^= 1,
         _ => {}
     }
     answer

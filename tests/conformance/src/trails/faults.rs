@@ -7,6 +7,7 @@
 use super::cases::count;
 use super::compare::{Calls, TrailNumber, TrailOrder};
 use super::report::run;
+use crate::lent::{part, part_mut};
 use std::cmp::Ordering;
 
 const NONE: u8 = 0;
@@ -347,17 +348,17 @@ fn answer_order(fault: u8, pairs: &[u8], number: u64, room: usize) -> (u64, Vec<
 
 /// The function with one fault, as C would call it.
 unsafe extern "C" fn faulty_number<const FAULT: u8>(ids: *const u8, ids_len: usize) -> u64 {
-    let answer = answer_number(FAULT, std::slice::from_raw_parts(ids, ids_len));
+    let answer = answer_number(FAULT, part(ids, ids_len));
     changed::<FAULT>(ids, ids_len);
     answer
 }
 
 /// Changes a byte of the piece that was lent for reading, or one past it. Both stand in a vector
-/// with guard bytes, so these writes stay in its memory.
+/// with guard bytes, so these writes stay in its memory; a piece without bytes is null.
 unsafe fn changed<const FAULT: u8>(piece: *const u8, length: usize) {
     match FAULT {
         READ_PIECE_CHANGED if length > 0 => *piece.cast_mut() ^= 1,
-        PAST_THE_READ_PIECE => *piece.cast_mut().add(length) ^= 1,
+        PAST_THE_READ_PIECE if length > 0 => *piece.cast_mut().add(length) ^= 1,
         _ => {}
     }
 }
@@ -370,8 +371,8 @@ unsafe extern "C" fn faulty_order<const FAULT: u8>(
     ids: *mut u8,
     ids_len: usize,
 ) -> u64 {
-    let lent = std::slice::from_raw_parts(pairs, pairs_len);
-    let written = std::slice::from_raw_parts_mut(ids, ids_len);
+    let lent = part(pairs, pairs_len);
+    let written = part_mut(ids, ids_len);
     let (answer, order) = answer_order(FAULT, lent, number, ids_len);
     if answer > 20 || FAULT == WRITES_AT_20 {
         for (bytes, id) in written.chunks_exact_mut(8).zip(&order) {
@@ -384,8 +385,8 @@ unsafe extern "C" fn faulty_order<const FAULT: u8>(
     match FAULT {
         REST_CLEARED if answer > 20 => written[8 * order.len()..].fill(0),
         WRITES_AT_17 if answer == 17 => written.fill(0),
-        PAST_THE_IDS => *ids.add(ids_len) ^= 1,
-        BEFORE_THE_IDS => *ids.sub(1) ^= 1,
+        PAST_THE_IDS if ids_len > 0 => *ids.add(ids_len) ^= 1,
+        BEFORE_THE_IDS if ids_len > 0 => *ids.sub(1) ^= 1,
         _ => {}
     }
     changed::<FAULT>(pairs, pairs_len);

@@ -4,6 +4,7 @@
 use super::cases::count;
 use super::compare::Tree;
 use super::report::run;
+use crate::lent::{part, part_mut};
 use reference::fnv::{block_id, fnv1a};
 
 const NONE: u8 = 0;
@@ -277,13 +278,13 @@ unsafe extern "C" fn faulty<const FAULT: u8>(
     nodes: *mut u8,
     nodes_len: usize,
 ) -> u64 {
-    let lent = std::slice::from_raw_parts(string, string_len);
-    let table = std::slice::from_raw_parts_mut(nodes, nodes_len);
+    let lent = part(string, string_len);
+    let table = part_mut(nodes, nodes_len);
     let answer = answer(FAULT, [w, p, levels, nominal], lent, table);
     // The guard bytes and the string come from vectors, so these writes stay in their memory.
     match FAULT {
-        PAST_THE_TABLE => *nodes.add(nodes_len) ^= 1,
-        BEFORE_THE_TABLE => *nodes.sub(1) ^= 1,
+        PAST_THE_TABLE if nodes_len > 0 => *nodes.add(nodes_len) ^= 1,
+        BEFORE_THE_TABLE if nodes_len > 0 => *nodes.sub(1) ^= 1,
         STRING_CHANGED if string_len > 0 => *string.cast_mut() ^= 1,
         _ => {}
     }

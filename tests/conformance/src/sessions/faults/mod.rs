@@ -8,11 +8,11 @@ mod taking;
 use super::calls::{Calls, Query, ReceiverSetup, Reply, SenderSetup, Take};
 use super::cases::count;
 use super::report::run;
+use crate::lent::{part, part_mut};
 use crate::replies::setup::held;
 use reference::lent::Lent;
 use reference::rcds;
 use reference::settings::Settings;
-use std::slice::{from_raw_parts, from_raw_parts_mut};
 
 /// Numbers the faults from 1 on, and lists the calls with each of them.
 macro_rules! faults {
@@ -45,10 +45,10 @@ faults! {
     OPENING_COUNTED BUILT_KEPT_AT_OPENING NO_COPY_AT_OPENING LIST_LEFT_AT_18 LIST_LEFT_AT_19
     LIST_NOT_LEFT LIST_NOT_CLEARED
     // A node reply: 13, 15 to 17.
-    NODES_ASK_NO_13 SEVENTEEN_FIRST SIXTEEN_FIRST MOST_4095 MOST_4097 LITERALS_NOT_COUNTED
+    NODES_ASK_NO_13 NODES_ASK_THE_BUFFER_ALONE SEVENTEEN_FIRST SIXTEEN_FIRST MOST_4095 MOST_4097 LITERALS_NOT_COUNTED
     COUNTED_TWICE NONE_IS_EMPTY NONE_ONLY_REFUSED COMPOSED_AT_THE_LAST_LEVEL INDEX_FROM_1
     LIST_LEVEL_NOT_ASKED LIST_COUNT_NOT_ASKED COUNTS_OF_THE_LIST NUMBER_IGNORED NUMBER_LOW_12_BITS
-    CHILDREN_TO_31 ONE_REFERENCE_ALONE
+    CHILDREN_TO_31 CHILDREN_TO_33 ONE_REFERENCE_ALONE
     // Children and copies.
     CHILDREN_TURNED_ROUND CHILDREN_PUSHED_TWICE CHILDREN_FEIGNED LEVEL_KEPT NODE_KEPT PILE_TO_127
     PILE_TO_125 NO_COPY_AFTER_LITERAL COPIES_ONCE COPIES_LOW_32_BITS COPIES_OF_THE_LEVEL
@@ -66,8 +66,7 @@ faults! {
 }
 
 unsafe fn lent(pieces: [(*const u8, usize); 4]) -> Lent {
-    let [string, nodes, shingles, cells] =
-        pieces.map(|(at, length)| from_raw_parts(at, length).to_vec());
+    let [string, nodes, shingles, cells] = pieces.map(|(at, length)| part(at, length).to_vec());
     Lent {
         string,
         nodes,
@@ -99,15 +98,15 @@ unsafe extern "C" fn sender_setup<const FAULT: u8>(
         levels,
         nominal,
     };
-    let cells = from_raw_parts_mut(cells, cells_len);
+    let cells = part_mut(cells, cells_len);
     let answer = rcds::rcds_sender_setup(
         &settings,
         width,
-        from_raw_parts(string, string_len),
-        from_raw_parts_mut(nodes, nodes_len),
-        from_raw_parts_mut(shingles, shingles_len),
+        part(string, string_len),
+        part_mut(nodes, nodes_len),
+        part_mut(shingles, shingles_len),
         cells,
-        from_raw_parts_mut(state, state_len),
+        part_mut(state, state_len),
     );
     if FAULT == SENDER_SETUP_WITHOUT_CELLS && answer > 8 {
         cells.fill(0);
@@ -137,9 +136,9 @@ unsafe extern "C" fn reply<const FAULT: u8>(
         (shingles, shingles_len),
         (cells, cells_len),
     ]);
-    let (settings, width) = held(from_raw_parts(state, state_len));
-    let message = from_raw_parts(message, message_len);
-    let out = from_raw_parts_mut(out, out_len);
+    let (settings, width) = held(part(state, state_len));
+    let message = part(message, message_len);
+    let out = part_mut(out, out_len);
     let answer = reference::reply::reply(&settings, width, &lent, message, out);
     match FAULT {
         REPLY_OF_SESSION_0 if answer > 20 => out[1..4].fill(0),
@@ -179,11 +178,11 @@ unsafe extern "C" fn receiver_setup<const FAULT: u8>(
         (shingles, shingles_len),
         (cells, cells_len),
     ]);
-    let state = from_raw_parts_mut(state, state_len);
+    let state = part_mut(state, state_len);
     let answer = receiver::set_up(FAULT, &settings, width, session, &mut lent, state);
-    from_raw_parts_mut(nodes, nodes_len).copy_from_slice(&lent.nodes);
-    from_raw_parts_mut(shingles, shingles_len).copy_from_slice(&lent.shingles);
-    from_raw_parts_mut(cells, cells_len).copy_from_slice(&lent.cells);
+    part_mut(nodes, nodes_len).copy_from_slice(&lent.nodes);
+    part_mut(shingles, shingles_len).copy_from_slice(&lent.shingles);
+    part_mut(cells, cells_len).copy_from_slice(&lent.cells);
     answer
 }
 
@@ -207,12 +206,12 @@ unsafe extern "C" fn query<const FAULT: u8>(
         (shingles, shingles_len),
         (cells, cells_len),
     ]);
-    let bytes = from_raw_parts(state, state_len);
-    let answer = receiver::query(FAULT, bytes, &lent, from_raw_parts_mut(out, out_len));
+    let bytes = part(state, state_len);
+    let answer = receiver::query(FAULT, bytes, &lent, part_mut(out, out_len));
     // The guard bytes and all pieces come from vectors, so these writes stay in their memory.
     match FAULT {
         STATE_CHANGED_BY_QUERY if state_len > 0 => *state.cast_mut() ^= 1,
-        PAST_THE_QUERY => *out.add(out_len) ^= 1,
+        PAST_THE_QUERY if out_len > 0 => *out.add(out_len) ^= 1,
         _ => {}
     }
     answer
@@ -242,12 +241,12 @@ unsafe extern "C" fn take<const FAULT: u8>(
     ]);
     let answer = taking::take(
         FAULT,
-        from_raw_parts_mut(state, state_len),
+        part_mut(state, state_len),
         &mut lent,
-        from_raw_parts(message, message_len),
-        from_raw_parts_mut(output, output_len),
+        part(message, message_len),
+        part_mut(output, output_len),
     );
-    from_raw_parts_mut(shingles, shingles_len).copy_from_slice(&lent.shingles);
+    part_mut(shingles, shingles_len).copy_from_slice(&lent.shingles);
     // As above.
     match FAULT {
         RECEIVER_STRING_CHANGED if string_len > 0 => *string.cast_mut() ^= 1,
@@ -255,10 +254,10 @@ unsafe extern "C" fn take<const FAULT: u8>(
         SHINGLES_CHANGED if shingles_len > 0 => *shingles.add(shingles_len - 1) ^= 1,
         CELLS_CHANGED if cells_len > 0 => *cells.cast_mut() ^= 1,
         MESSAGE_CHANGED if message_len > 0 => *message.cast_mut() ^= 1,
-        PAST_THE_OUTPUT => *output.add(output_len) ^= 1,
-        BEFORE_THE_OUTPUT => *output.sub(1) ^= 1,
-        PAST_THE_STATE => *state.add(state_len) ^= 1,
-        BEFORE_THE_SHINGLES => *shingles.sub(1) ^= 1,
+        PAST_THE_OUTPUT if output_len > 0 => *output.add(output_len) ^= 1,
+        BEFORE_THE_OUTPUT if output_len > 0 => *output.sub(1) ^= 1,
+        PAST_THE_STATE if state_len > 0 => *state.add(state_len) ^= 1,
+        BEFORE_THE_SHINGLES if shingles_len > 0 => *shingles.sub(1) ^= 1,
         _ => {}
     }
     answer
