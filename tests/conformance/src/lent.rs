@@ -163,7 +163,7 @@ pub fn is_shared(pointers: &[*const u8]) -> bool {
 
 /// A lent piece as a function sees it that is wrong on purpose: null stands for no bytes.
 #[cfg(test)]
-pub unsafe fn part<'a>(at: *const u8, length: usize) -> &'a [u8] {
+pub(crate) unsafe fn part<'a>(at: *const u8, length: usize) -> &'a [u8] {
     match at.is_null() {
         true => &[],
         false => std::slice::from_raw_parts(at, length),
@@ -172,7 +172,7 @@ pub unsafe fn part<'a>(at: *const u8, length: usize) -> &'a [u8] {
 
 /// The same of one that is lent for writing.
 #[cfg(test)]
-pub unsafe fn part_mut<'a>(at: *mut u8, length: usize) -> &'a mut [u8] {
+pub(crate) unsafe fn part_mut<'a>(at: *mut u8, length: usize) -> &'a mut [u8] {
     match at.is_null() {
         true => &mut [],
         false => std::slice::from_raw_parts_mut(at, length),

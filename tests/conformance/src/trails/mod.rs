@@ -4,6 +4,7 @@ mod cases;
 mod compare;
 pub mod orders;
 mod report;
+mod stranded;
 
 #[cfg(test)]
 mod faults;
@@ -21,6 +22,7 @@ pub fn run_all(seed: u64, calls: Calls) -> Result<Vec<String>, Failure> {
     Ok(vec![
         format!("rcds_trail_number, seed {seed}: {}", report.number),
         format!("rcds_trail_order, seed {seed}: {}", report.order),
+        stranded::run(calls)?,
     ])
 }
 
