@@ -1,4 +1,5 @@
--- Lists of calls from C, and demand 3 of them; and a whole session between two ends.
+-- Lists of calls from C, and demand 3 of them; what a sender writes; and a whole session between two ends.
 pub mod Made
 pub mod Demand
 pub mod Session
+pub mod Sending

@@ -96,6 +96,8 @@ module _ (σ : Settings) (m : Lent) (n : ℕ) (set-up : SetupAccepts σ m) (stri
             no-other = every-map es (λ e whole out h. h .bytes ∙ whole (h .size) (h .answer)) (kept .whole);
             then = λ points. handed-string (then (Delivered σ string (n % 2 ^ 24)) 0 (initial σ n) cs (kept .laws) (session-runs σ n) points);
             only-then = λ h. only-then (Delivered σ string (n % 2 ^ 24)) 0 (initial σ n) cs (kept .laws) (handed-some string es h);
+            sound = every-map es (λ e law. law .sound) (kept .laws);
+            unmoved = every-map es (λ e law. law .same) (kept .laws);
           }
 
 -- "For every list of receiver calls .. from an accepted setup": both halves.

@@ -17,6 +17,7 @@ pub mod Memory
 pub mod Valid
 pub mod Session
 pub mod Own
+pub mod Announcing
 pub mod Demand
 pub mod Progress
 pub mod Witness

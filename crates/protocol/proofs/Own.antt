@@ -24,22 +24,19 @@ use Rattle.shingle.specs.declared.Shingle.{Shingle}
 use Rattle.shingle.proofs.PairOrder.{and-true}
 use Rattle.shingle.proofs.Rising.{shingles-rise}
 use Rattle.sort.specs.Shell.{total}
-use Rattle.sketch.specs.Cells.{cellsOf}
 use Rattle.setup.specs.Tables.{shinglesOfString}
 use Rattle.setup.proofs.Accepted.{setup-passed, nodes-length, first-id}
 use Rattle.trail.specs.Trails.{trailNumber}
 use Rattle.trail.specs.Calls.{nonzero}
-use Rattle.message.specs.Messages.{Msg, openingQuery, nodeQuery, opening, composition, literal, noNode, encode, Valid}
-use Rattle.message.proofs.Messages.{parse-encode}
+use Rattle.message.specs.Messages.{Msg, openingQuery, nodeQuery, opening, composition, literal, noNode}
 use Rattle.protocol.specs.Lent.{Lent}
 use Rattle.protocol.specs.Nodes.{Entry, entryAt, inside, entriesFrom, entriesIn, blockIn, fromFirst}
 use Rattle.protocol.specs.Sender.{ruleNumber, childIds, composable, refsOf, referable, nodeReply, openingReply, replyTo}
-use Rattle.protocol.specs.Genuine.{blocksOf, Accepted, childrenIds, firstOf, IsBlockReply, IsNodeReply, IsReply}
-use Rattle.protocol.specs.Demand.{SetupAccepts, leftBySetup, Announces}
+use Rattle.protocol.specs.Genuine.{blocksOf, childrenIds, firstOf, IsBlockReply, IsNodeReply, IsReply}
+use Rattle.protocol.specs.Demand.{SetupAccepts, leftBySetup}
 use Rattle.protocol.proofs.Memory.{made, nodes-is, accepted, cells-again, list-again}
 use Rattle.protocol.proofs.Cases.{same-message, no-message}
 use Rattle.protocol.proofs.Referable.{rising-referable}
-use Rattle.protocol.proofs.Valid.{valid-reply}
 
 -- A node as its entry.
 abbrev entryOf : Node → Entry
@@ -316,15 +313,3 @@ module _ (σ : Settings) (m : Lent) (set-up : SetupAccepts σ m) where
   replies-genuine (composition n l i y refs) x e = absurd (no-message e)
   replies-genuine (literal n l i bytes) x e = absurd (no-message e)
   replies-genuine (noNode n l i) x e = absurd (no-message e)
-
--- The sender's own opening announces its string's length and id.
-pub own-announces : (σ : Settings) (string : List ℕ) (n : ℕ) (x : Msg) → Accepted σ string → Valid (openingQuery n) → IsReply σ string (openingQuery n) x → Announces string (encode x)
-unfolding IsReply
-own-announces σ string n x setup v r =
-    record {
-      session = n;
-      rule = ruleNumber;
-      settings = σ;
-      cells = cellsOf (σ .width) (shinglesOfString σ string);
-      is = parse-encode x (valid-reply σ string (openingQuery n) x setup v r) ∙ ap some r;
-    }

@@ -1,5 +1,5 @@
 -- Demand 3 of document 00, both halves, as one statement about every list of receiver calls. Each condition is a definition of its own.
-use mathlib.Core.Bool.{true, not, _&&_}
+use mathlib.Core.Bool.{true, false, not, _&&_}
 use mathlib.Core.List.{List, [], _∷_, _++_}
 use mathlib.Core.Option.{some}
 use mathlib.Core.Path.{_≡_}
@@ -134,13 +134,17 @@ pub record Conditions (σ : Settings) (m : Lent) (string : List ℕ) (session : 
   pub genuine : Every (λ (e : Event). TakesGenuine σ string session (e .call)) es
 
 -- What it owes: "each reply delivered while its query is outstanding is accepted, at most 4,097 replies are, and the sender's string is
--- handed over, and no other, exactly when each query has had one so delivered."
+-- handed over, and no other, exactly when each query has had one so delivered." The last two go beyond the demand: no other reply is
+-- accepted, and a call that accepts none leaves the session where it was, so that no message out of turn costs a query its reply.
 pub record Owed (σ : Settings) (string : List ℕ) (session : ℕ) (s : State) (cs : List Call) (es : List Event) : Type 0 where
   pub accepting : Every (λ (e : Event). Delivered σ string session e → accepts e ≡ true) es
   pub few : accepted es ≤ 4097
   pub no-other : Every (λ (e : Event). (out : List ℕ) → HandsOver e out → out ≡ string) es
   pub then : EachQueryAnswered σ string session s cs es → Some (λ (e : Event). HandsOver e string) es
   pub only-then : Some (λ (e : Event). HandsOver e string) es → EachQueryAnswered σ string session s cs es
+  -- Beyond the demand.
+  pub sound : Every (λ (e : Event). accepts e ≡ true → Delivered σ string session e) es
+  pub unmoved : Every (λ (e : Event). accepts e ≡ false → e .result .state ≡ e .before) es
 
 abbrev pub SecondHalf : Settings → Lent → ℕ → State → List Call → List Event → Type 0
 SecondHalf σ m session s cs es = (string : List ℕ) → Conditions σ m string session es → Owed σ string session s cs es

@@ -1,0 +1,40 @@
+-- What a sender writes, as C has it written: by `rcds_reply`, over the string and the tables of an accepted `rcds_sender_setup` as that setup
+-- left them. Document 01: "A sender's own opening is one written over the string its accepted setup took, with the tables as that setup left
+-- them. Its messages written so, with its state unaltered too, are the genuine ones."
+use mathlib.Core.List.{List}
+use mathlib.Core.Option.{some}
+use mathlib.Core.Path.{_≡_}
+use Prim.Native.Nat.{ℕ, _-_, _^_, _≤_, _<_}
+use lib.ListN.{take}
+use Rattle.tree.specs.declared.Settings.{Settings}
+use Rattle.message.specs.Messages.{Msg, openingQuery, parse}
+use Rattle.message.specs.Fields.{Every as All}
+use Rattle.protocol.specs.Calls.{Every}
+use Rattle.protocol.specs.Genuine.{ServesOneString, GenuineReply}
+use Rattle.protocol.specs.Demand.{Announces}
+use Rattle.sender.specs.State.{settingsIn, SenderSetUp}
+use Rattle.reply.specs.Reply.{Replied}
+
+-- A sender's own opening announces its string, whatever state the call that wrote it was lent.
+abbrev pub OwnOpeningOfCalls : Type 0
+OwnOpeningOfCalls =
+    (σ : Settings) (string nodes nodes′ shingles shingles′ cells cells′ state state′ : List ℕ) (r : ℕ)
+    → SenderSetUp σ string nodes nodes′ shingles shingles′ cells cells′ state state′ r → 2 ^ 32 ≤ r
+    → (any message buffer buffer′ : List ℕ) (session k : ℕ) → All (λ b. b < 256) message → parse message ≡ some (openingQuery session)
+    → Replied (settingsIn any) string nodes′ shingles′ cells′ message buffer buffer′ k → 2 ^ 32 ≤ k
+    → Announces string (take (k - 2 ^ 32) buffer′)
+
+-- A reply to the query that was read is genuine, for each receiver whose session number serves one string.
+pub record RepliesTo (σ : Settings) (string message reply : List ℕ) : Type 0 where
+  pub query : Msg
+  pub read : parse message ≡ some query
+  pub genuine : (τ : Settings) (theirs : List ℕ) (session : ℕ) → ServesOneString τ theirs session query σ string → GenuineReply τ theirs session query reply
+
+-- What is written with the state as the setup left it too is genuine.
+abbrev pub GenuineOfCalls : Type 0
+GenuineOfCalls =
+    (σ : Settings) (string nodes nodes′ shingles shingles′ cells cells′ state state′ : List ℕ) (r : ℕ) → Every (λ b. b < 256) string
+    → SenderSetUp σ string nodes nodes′ shingles shingles′ cells cells′ state state′ r → 2 ^ 32 ≤ r
+    → (message buffer buffer′ : List ℕ) (k : ℕ) → All (λ b. b < 256) message
+    → Replied (settingsIn state′) string nodes′ shingles′ cells′ message buffer buffer′ k → 2 ^ 32 ≤ k
+    → RepliesTo σ string message (take (k - 2 ^ 32) buffer′)
