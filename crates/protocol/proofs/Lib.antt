@@ -1,5 +1,6 @@
 -- What is proved of the definitions.
 pub mod Cases
+pub mod Refusals
 pub mod FirstHalf
 pub mod Exactly
 pub mod Members

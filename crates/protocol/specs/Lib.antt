@@ -4,6 +4,7 @@ pub mod Nodes
 pub mod Sender
 pub mod State
 pub mod Receiver
+pub mod Refusals
 pub mod Calls
 pub mod Genuine
 pub mod Demand
