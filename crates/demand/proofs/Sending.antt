@@ -16,7 +16,7 @@ use Rattle.setup.proofs.Questions.{lent-small}
 use Rattle.setup.proofs.Accepted.{yes-answer, other-after-yes, setup-passed}
 use Rattle.message.specs.Fields.{Every as All}
 use Rattle.message.specs.Messages.{Msg, openingQuery, Parts, Valid, encode, parse}
-use Rattle.message.proofs.Messages.{encode-parse}
+use Rattle.message.proofs.Messages.{parse-encode, encode-parse}
 use Rattle.protocol.specs.Lent.{Lent, lent, refusedBy}
 use Rattle.protocol.specs.Sender.{Written, unwritten, writing, openingReply, replyTo, replying, hearing, reply}
 use Rattle.protocol.specs.Calls.{Every}
@@ -24,11 +24,12 @@ use Rattle.protocol.specs.Genuine.{Accepted}
 use Rattle.protocol.specs.Demand.{SetupAccepts, leftBySetup, Announces}
 use Rattle.protocol.proofs.Cases.{chosen, same-message}
 use Rattle.protocol.proofs.Own.{replies-genuine}
+use Rattle.protocol.proofs.Readable.{every-reply-valid}
 use Rattle.protocol.proofs.Announcing.{own-opening-announces}
 use Rattle.reply.specs.Reply.{Replied}
 use Rattle.sender.specs.State.{settingsIn, SenderSetUp}
 use Rattle.sender.proofs.Accepted.{settings-kept}
-use Rattle.demand.specs.Sending.{OwnOpeningOfCalls, RepliesTo, GenuineOfCalls}
+use Rattle.demand.specs.Sending.{IsMessage, MessageOfCalls, OwnOpeningOfCalls, RepliesTo, GenuineOfCalls}
 
 -- A reply was written: to the query read, as the definition has it.
 record Wrote (σ : Settings) (m : Lent) (message : List ℕ) (w : Written) : Type 0 where
@@ -77,6 +78,18 @@ module _ (σ : Settings) (m : Lent) (message buffer : List ℕ) where
       chosen Claim (eqb (refusedBy σ m) 0) _ _
       (λ asks high. wrote-hearing (eqb-true _ _ asks) (parse message) refl high)
       (λ refused high. absurd (omega (arith, high, low)))
+
+pub message-of-calls : MessageOfCalls
+message-of-calls state string nodes shingles cells message buffer buffer′ k string-bytes node-bytes cell-bytes bytes-in replied written =
+    let σ = settingsIn state in
+    let m = lent string nodes shingles cells [] in
+    let w = reply σ m message buffer in
+    let done = wrote σ m message buffer (omega (arith, written, replied .answer-is)) in
+    let query-valid = encode-parse message (done .query) bytes-in (done .read) .0 in
+    let valid = every-reply-valid σ m (done .asks) string-bytes node-bytes cell-bytes (done .query) (done .x) query-valid (done .replies) in
+    let bytes : take (k - 2 ^ 32) buffer′ ≡ encode (done .x) =
+    ap (λ (j : ℕ). take (j - 2 ^ 32) buffer′) (replied .answer-is) ∙ (ap (take (w .answer - 2 ^ 32)) (replied .buffer-is) ∙ done .bytes) in
+    record { message = done .x; read = ap parse bytes ∙ parse-encode (done .x) valid }
 
 session-small : (n : ℕ) → Valid (openingQuery n) → n < 2 ^ 24
 unfolding Parts

@@ -6,6 +6,7 @@ use mathlib.Core.Option.{some}
 use mathlib.Core.Path.{_≡_, subst}
 use Prim.Native.Nat.{ℕ, _+_, _*_, _/_, _≤_}
 use native.Mathlib.Omega.{arith}
+use lib.Dec.{ltb}
 use lib.ListN.{length, drop, length-append, length-take, length-drop}
 use borrow.Author.Tests.{ltb-true}
 use Rattle.tree.specs.declared.Settings.{Settings}
@@ -66,7 +67,7 @@ node-fits room σ string list n l i (e ∷ es) h k =
     (λ t. literal-fits room n l i _ (omega (arith, block-short string e, k)))
   where
     few : (ids : List ℕ) → referable list (l + 1) ids ≡ true → length (refsOf list (l + 1) ids) ≤ 32
-    few ids t = unfold referable in let h = ltb-true (length (refsOf list (l + 1) ids)) 33 t in omega (arith, h)
+    few ids t = unfold referable in let h = ltb-true (length (refsOf list (l + 1) ids)) 33 (and-true (ltb (length (refsOf list (l + 1) ids)) 33) _ t .0) in omega (arith, h)
 
 -- A room for the opening and for a literal of the whole string.
 module _ (σ : Settings) (m : Lent) (asked : refusal σ (length (m .string)) ≡ 0) (room : ℕ)

@@ -1,6 +1,6 @@
--- What a sender writes, as C has it written: by `rcds_reply`, over the string and the tables of an accepted `rcds_sender_setup` as that setup
--- left them. Document 01: "A sender's own opening is one written over the string its accepted setup took, with the tables as that setup left
--- them. Its messages written so, with its state unaltered too, are the genuine ones."
+-- What a sender writes, as C has it written by `rcds_reply`: over anything it is lent, and over the string and the tables of an accepted
+-- `rcds_sender_setup` as that setup left them. Document 01: "A sender's own opening is one written over the string its accepted setup took,
+-- with the tables as that setup left them. Its messages written so, with its state unaltered too, are the genuine ones."
 use mathlib.Core.List.{List}
 use mathlib.Core.Option.{some}
 use mathlib.Core.Path.{_≡_}
@@ -14,6 +14,18 @@ use Rattle.protocol.specs.Genuine.{ServesOneString, GenuineReply}
 use Rattle.protocol.specs.Demand.{Announces}
 use Rattle.sender.specs.State.{settingsIn, SenderSetUp}
 use Rattle.reply.specs.Reply.{Replied}
+
+-- A call that answers that it wrote a reply wrote a well-formed message, whatever bytes it was lent.
+pub record IsMessage (bytes : List ℕ) : Type 0 where
+  pub message : Msg
+  pub read : parse bytes ≡ some message
+
+abbrev pub MessageOfCalls : Type 0
+MessageOfCalls =
+    (state string nodes shingles cells message buffer buffer′ : List ℕ) (k : ℕ) → Every (λ b. b < 256) string → Every (λ b. b < 256) nodes
+    → Every (λ b. b < 256) cells → All (λ b. b < 256) message
+    → Replied (settingsIn state) string nodes shingles cells message buffer buffer′ k → 2 ^ 32 ≤ k
+    → IsMessage (take (k - 2 ^ 32) buffer′)
 
 -- A sender's own opening announces its string, whatever state the call that wrote it was lent.
 abbrev pub OwnOpeningOfCalls : Type 0

@@ -18,6 +18,7 @@ pub mod Memory
 pub mod Valid
 pub mod Session
 pub mod Own
+pub mod Readable
 pub mod Announcing
 pub mod Demand
 pub mod Progress

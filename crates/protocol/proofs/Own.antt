@@ -25,6 +25,7 @@ use Rattle.shingle.proofs.PairOrder.{and-true}
 use Rattle.shingle.proofs.Rising.{shingles-rise}
 use Rattle.sort.specs.Shell.{total}
 use Rattle.setup.specs.Tables.{shinglesOfString}
+use Rattle.setup.proofs.Sizes.{few-shingles}
 use Rattle.setup.proofs.Accepted.{setup-passed, nodes-length, first-id}
 use Rattle.trail.specs.Trails.{trailNumber}
 use Rattle.trail.specs.Calls.{nonzero}
@@ -34,7 +35,7 @@ use Rattle.protocol.specs.Nodes.{Entry, entryAt, inside, entriesFrom, en
 use Rattle.protocol.specs.Sender.{ruleNumber, childIds, composable, refsOf, referable, nodeReply, openingReply, replyTo}
 use Rattle.protocol.specs.Genuine.{blocksOf, childrenIds, firstOf, IsBlockReply, IsNodeReply, IsReply}
 use Rattle.protocol.specs.Demand.{SetupAccepts, leftBySetup}
-use Rattle.protocol.proofs.Memory.{made, nodes-is, accepted, cells-again, list-again}
+use Rattle.protocol.proofs.Memory.{few, made, nodes-is, accepted, cells-again, list-again}
 use Rattle.protocol.proofs.Cases.{same-message, no-message}
 use Rattle.protocol.proofs.Referable.{rising-referable}
 
@@ -212,7 +213,7 @@ from-node string l i (n ∷ ns) (both-within w ws) =
     go false e = e
 
 -- The reply over the nodes of a tree.
-module _ (σ : Settings) (string : List ℕ) (n l i : ℕ) where
+module _ (σ : Settings) (string : List ℕ) (n l i : ℕ) (listed : length (shinglesOfString σ string) ≤ 4096) where
   abbrev list : List Shingle
   list = shinglesOfString σ string
 
@@ -263,7 +264,7 @@ module _ (σ : Settings) (string : List ℕ) (n l i : ℕ) where
     few-referred = go (composable σ l ids) refl
       where
         go : (t : Bool) → composable σ l ids ≡ t → (t && referable list (l + 1) ids) ≡ t
-        go true e = rising-referable list (l + 1) ids (unfold shinglesOfString in shingles-rise _) (few-ids ids e)
+        go true e = rising-referable list (l + 1) ids (unfold shinglesOfString in shingles-rise _) listed (few-ids ids e)
         go false e = refl
 
     first-reply : IsNodeReply σ string n l i (some (x .bytes)) (nodeReply σ string list n l i (map entryOf (x ∷ ns)))
@@ -304,11 +305,12 @@ module _ (σ : Settings) (m : Lent) (set-up : SetupAccepts σ m) where
       ∙ (λ j. opening n ruleNumber (σ .window) (σ .«fan_out») (σ .levels) (σ .nominal) (σ .width) (length (m .string)) (id j) (rows j))
   replies-genuine (nodeQuery n l i) x e =
       let list = list-again σ m set-up in
+      let listed : length (shinglesOfString σ (m .string)) ≤ 4096 = omega (arith, few-shingles σ (m .string), few σ m set-up) in
       let is : x ≡ nodeReply σ (m .string) (shinglesOfString σ (m .string)) n l i (map entryOf (fromNode l i (nodesOf σ (m .string)))) =
       sym (same-message e)
       ∙ (λ j. nodeReply σ (m .string) (list j) n l i (fromFirst (λ e. inside (length (m .string)) e && (eqb (e .level) l && eqb (e .id) i)) (entries-left j)))
       ∙ ap (nodeReply σ (m .string) (shinglesOfString σ (m .string)) n l i) (from-node (m .string) l i (nodesOf σ (m .string)) (nodes-within σ (m .string))) in
-      rw is (nodes-reply σ (m .string) n l i (nodesOf σ (m .string)) (tidy-nodes σ (m .string)) (nodes-within σ (m .string)))
+      rw is (nodes-reply σ (m .string) n l i listed (nodesOf σ (m .string)) (tidy-nodes σ (m .string)) (nodes-within σ (m .string)))
   replies-genuine (opening n rule w p L M q size root cells) x e = absurd (no-message e)
   replies-genuine (composition n l i y refs) x e = absurd (no-message e)
   replies-genuine (literal n l i bytes) x e = absurd (no-message e)

@@ -1,4 +1,4 @@
--- A list that names no pair twice is referred to at most once for each child.
+-- A list that names no pair twice is referred to at most once for each child, and one of at most 4,096 within the field of an index.
 use mathlib.Core.Bool.{Bool, true, false, cond}
 use mathlib.Core.List.{List, [], _∷_}
 use mathlib.Core.Path.{_≡_, refl, ap, subst}
@@ -14,7 +14,7 @@ use Rattle.shingle.specs.Children.{pairsAlong}
 use Rattle.shingle.proofs.PairOrder.{pairs-linear, same-true}
 use Rattle.sort.specs.Shell.{total}
 use Rattle.message.specs.Words.{Ref}
-use Rattle.protocol.specs.Sender.{refer, refsFrom, refsOf, referable}
+use Rattle.protocol.specs.Sender.{refer, refsFrom, refsOf, indexed, referable}
 
 -- 1 unless n is 0.
 abbrev positive : ℕ → ℕ
@@ -87,10 +87,20 @@ unfolding pairsAlong
 length-along l v [] = refl
 length-along l v (x ∷ ids) = ap suc (length-along l x ids)
 
-pub rising-referable : (list : List Shingle) (l : ℕ) (ids : List ℕ) → Rising list → length ids ≤ 32 → referable list l ids ≡ true
+-- Of a list with at most 4,096 shingles every index is within its field.
+pub all-indexed : (l : ℕ) (ids : List ℕ) (i : ℕ) (ss : List Shingle) → i + length ss ≤ 4096 → indexed (refsFrom i ss l ids) ≡ true
+unfolding refsFrom indexed
+all-indexed l ids i [] h = refl
+all-indexed l ids i (s ∷ ss) h = go (howMany (pairOf s) (pairsAlong l 0 ids)) (all-indexed l ids (suc i) ss (omega (arith, h)))
+  where
+    go : (n : ℕ) → indexed (refsFrom (suc i) ss l ids) ≡ true → indexed (refer i n (refsFrom (suc i) ss l ids)) ≡ true
+    go zero rest = unfold refer in rest
+    go (suc n) rest = unfold refer indexed in rw (lt-ltb i 4096 (omega (arith, h))) rest
+
+pub rising-referable : (list : List Shingle) (l : ℕ) (ids : List ℕ) → Rising list → length list ≤ 4096 → length ids ≤ 32 → referable list l ids ≡ true
 unfolding referable refsOf
-rising-referable list l ids r h =
+rising-referable list l ids r many h =
     let size = refs-standing l ids 0 list in
     let few = few-standing (pairsAlong l 0 ids) r in
     let long = length-along l 0 ids in
-    lt-ltb (length (refsFrom 0 list l ids)) 33 (omega (arith, size, few, long, h))
+    rw (lt-ltb (length (refsFrom 0 list l ids)) 33 (omega (arith, size, few, long, h))) (all-indexed l ids 0 list (omega (arith, many)))

@@ -34,10 +34,11 @@ use Rattle.message.specs.Words.{Ref, plain, referenceWord}
 use Rattle.message.specs.Fields.{one, value, values, valuesTo, many, manyTo, only, stands, distinct, text, textTo}
 use Rattle.message.specs.Fields.{Every as All}
 use Rattle.message.specs.Messages.{Msg, openingQuery, nodeQuery, opening, composition, literal, noNode, cellValues, headed, wordsThen, sizeOf, Parts, Valid}
-use Rattle.protocol.specs.Sender.{ruleNumber, composable, refer, refsFrom, refsOf}
+use Rattle.protocol.specs.Sender.{ruleNumber, composable, refer, refsFrom, refsOf, indexed}
 use Rattle.protocol.specs.Calls.{Every}
 use Rattle.protocol.specs.Genuine.{blocksOf, Accepted, childrenIds, firstOf, IsBlockReply, IsNodeReply, IsReply}
 use Rattle.protocol.proofs.Memory.{same-bytes, none-not}
+use Rattle.protocol.proofs.Referable.{all-indexed}
 
 -- References: few, each within its fields, no index twice.
 how-many-few : (k : Pair) (ps : List Pair) → howMany k ps ≤ length ps
@@ -72,14 +73,20 @@ module _ (l : ℕ) (ids : List ℕ) (few : length ids ≤ 32) where
   unfolding wide
   not-wide i n h k = rw (lt-ltb i 4096 h, lt-ltb 0 (suc n) (omega arith), lt-ltb (suc n) 33 (omega (arith, k))) refl
 
-  none-wide : (i : ℕ) (ss : List Shingle) → i + length ss ≤ 4096 → total wide (refsFrom i ss l ids) ≡ 0
+  none-wide : (i : ℕ) (ss : List Shingle) → indexed (refsFrom i ss l ids) ≡ true → total wide (refsFrom i ss l ids) ≡ 0
   unfolding total refsFrom
   none-wide i [] h = refl
-  none-wide i (s ∷ ss) h = go (times s) (times-few s) (none-wide (suc i) ss (omega (arith, h)))
+  none-wide i (s ∷ ss) h = go (times s) (times-few s) h (none-wide (suc i) ss)
     where
-      go : (n : ℕ) → n ≤ 32 → total wide (refsFrom (suc i) ss l ids) ≡ 0 → total wide (refer i n (refsFrom (suc i) ss l ids)) ≡ 0
-      go zero k rest = unfold refer in rest
-      go (suc n) k rest = unfold refer in let z = not-wide i n (omega (arith, h)) k in omega (arith, z, rest)
+      go : (n : ℕ) → n ≤ 32 → indexed (refer i n (refsFrom (suc i) ss l ids)) ≡ true
+          → (indexed (refsFrom (suc i) ss l ids) ≡ true → total wide (refsFrom (suc i) ss l ids) ≡ 0)
+          → total wide (refer i n (refsFrom (suc i) ss l ids)) ≡ 0
+      go zero k low rest = unfold refer in rest low
+      go (suc n) k low rest =
+          unfold refer indexed in
+          let t = and-true (ltb i 4096) _ low in
+          let z = not-wide i n (ltb-true i 4096 (t .0)) k in
+          omega (arith, z, rest (t .1))
 
   -- Before index i nothing stands, and at an index at most one.
   none-before : (j i : ℕ) (ss : List Shingle) → j < i → total (at j) (refsFrom i ss l ids) ≡ 0
@@ -151,6 +158,15 @@ all-distinct (r ∷ refs) h =
         let here : _≡_ {A = ℕ} (cond (eqb (r .index) (r .index)) 1 0) 1 = rw (eq-eqb (r .index) (r .index) refl) refl in
         absurd (omega (arith, k, here, stands-counted (r .index) refs e))
 
+-- References to a list are within their fields if each index is, and no index stands twice.
+pub references-fit : (list : List Shingle) (l : ℕ) (ids : List ℕ) → length ids ≤ 32 → indexed (refsOf list l ids) ≡ true
+    → (All (referenceWord .Fits) (refsOf list l ids)) × (distinct (refsOf list l ids) ≡ true)
+unfolding refsOf
+references-fit list l ids few low = (
+  all-narrow (refsFrom 0 list l ids) (none-wide l ids few 0 list low),
+  all-distinct (refsFrom 0 list l ids) (λ i. one-at l ids few i 0 list),
+)
+
 length-total : (refs : List Ref) → total (λ (r : Ref). 1) refs ≡ length refs
 unfolding total
 length-total [] = refl
@@ -165,8 +181,8 @@ module _ (τ : Settings) (string : List ℕ) (setup : Accepted τ string) where
   unfolding refsOf
   refs-fit l ids refs few order =
       let list = shinglesOfString τ string in
-      let start : 0 + length list ≤ 4096 = omega (arith, list-few) in (
-        all-narrow refs (order .same wide ∙ none-wide l ids few 0 list start),
+      let low = all-indexed l ids 0 list (omega (arith, list-few)) in (
+        all-narrow refs (order .same wide ∙ none-wide l ids few 0 list low),
         all-distinct refs (λ i. let e = order .same (at i) in let h = one-at l ids few i 0 list in omega (arith, e, h)),
         (let e = order .same (λ (r : Ref). 1) in let h = few-refs l ids few 0 list in let n = length-total refs in omega (arith, e, h, n, list-few)),
       )
@@ -184,21 +200,21 @@ length-values [] = refl
 length-values (x ∷ xs) = let e = length-values xs in omega (arith, e)
 
 -- The bytes of blocks.
-all-take : (P : ℕ → Type 0) (n : ℕ) (l : List ℕ) → Every P l → All P (take n l)
+pub all-take : (P : ℕ → Type 0) (n : ℕ) (l : List ℕ) → Every P l → All P (take n l)
 unfolding Every
 all-take P zero l h = tt
 all-take P (suc n) [] h = tt
 all-take P (suc n) (x ∷ l) h = (h .0, all-take P n l (h .1))
 
-every-drop : (P : ℕ → Type 0) (n : ℕ) (l : List ℕ) → Every P l → Every P (drop n l)
+pub every-drop : (P : ℕ → Type 0) (n : ℕ) (l : List ℕ) → Every P l → Every P (drop n l)
 unfolding Every
 every-drop P zero l h = h
 every-drop P (suc n) [] h = tt
 every-drop P (suc n) (x ∷ l) h = every-drop P n l (h .1)
 
-record Printable (n : ℕ) (bytes : List ℕ) : Type 0 where
-  bytes-fit : All (λ b. b < 256) bytes
-  short : length bytes ≤ n
+pub record Printable (n : ℕ) (bytes : List ℕ) : Type 0 where
+  pub bytes-fit : All (λ b. b < 256) bytes
+  pub short : length bytes ≤ n
 
 blocks-printable : (string : List ℕ) → Every (λ (b : ℕ). b < 256) string → {ns : List Node} → Each (λ n. Within string (n .start) (n .bytes)) ns
     → Every (λ c. Printable (length string) (c .bytes)) (map content ns)
@@ -235,11 +251,11 @@ length-references [] = refl
 length-references (r ∷ refs) = ap suc (length-references refs)
 
 -- Each type of reply.
-valid-none : (n l i : ℕ) → Valid (nodeQuery n l i) → Valid (noNode n l i)
+pub valid-none : (n l i : ℕ) → Valid (nodeQuery n l i) → Valid (noNode n l i)
 unfolding Parts sizeOf wordsThen headed one value
 valid-none n l i v = record { size = omega arith; parts = v .parts }
 
-valid-literal : (n l i : ℕ) (bytes : List ℕ) → Valid (nodeQuery n l i) → Printable 65536 bytes → Valid (literal n l i bytes)
+pub valid-literal : (n l i : ℕ) (bytes : List ℕ) → Valid (nodeQuery n l i) → Printable 65536 bytes → Valid (literal n l i bytes)
 unfolding Parts sizeOf wordsThen headed one value text
 valid-literal n l i bytes v p =
     let e = length-append (textTo bytes) [] in

@@ -1,6 +1,6 @@
 -- The sender's reply: document 01, "To type 1 the sender replies type 3", and 'Questions', "Sender: 10 as above, 11 type 1 or 2? 20
 -- reply fits the buffer lent?"
-use mathlib.Core.Bool.{Bool, cond, _&&_}
+use mathlib.Core.Bool.{Bool, true, cond, _&&_}
 use mathlib.Core.List.{List, [], _∷_, _++_}
 use mathlib.Core.Option.{Option, none, some}
 use Prim.Native.Nat.{ℕ, zero, suc, _+_, _^_}
@@ -51,9 +51,15 @@ refsFrom i (s ∷ ss) l ids = refer i (howMany (pairOf s) (pairsAlong l 0 ids)) 
 unfoldable pub refsOf : List Shingle → ℕ → List ℕ → List Ref
 refsOf list l ids = refsFrom 0 list l ids
 
--- There are at most 32 references. So it is with 32 children and a list that names no pair twice, as setup leaves it.
+-- Every index is within its field, "12 bits list index".
+unfoldable pub indexed : List Ref → Bool
+indexed [] = true
+indexed (r ∷ refs) = ltb (r .index) 4096 && indexed refs
+
+-- References to all of the pairs can be written: at most 32, each index within its field. So it is with 32 children and a list of at most
+-- 4,096 shingles that names no pair twice, as setup leaves it.
 unfoldable pub referable : List Shingle → ℕ → List ℕ → Bool
-referable list l ids = ltb (length (refsOf list l ids)) 33
+referable list l ids = ltb (length (refsOf list l ids)) 33 && indexed (refsOf list l ids)
 
 -- "None: type 6. At level L, or with a trail number above 4,095: type 5. Else type 4, referring to its list. Session is copied."
 unfoldable pub nodeReply : Settings → List ℕ → List Shingle → (session level id : ℕ) → List Entry → Msg

@@ -108,7 +108,7 @@ module _ (shingles : List ℕ) (n l i : ℕ) (ids b : List ℕ) (answer : ℕ) (
     pub children-unreferable : 32 < count
         → Attempted (numbered ids && referable (shinglesIn shingles) (l + 1) ids) b b (compositionOf shingles n l i ids) 0
     unfolding referable
-    children-unreferable h = not-attempted (second-false (numbered ids) _ (le-ltb _ 33 (c .many h)))
+    children-unreferable h = not-attempted (second-false (numbered ids) _ (c .many h))
 
     pub children-composed : {a : List ℕ} {r : ℕ} → 2 ^ 32 ≤ answer → answer ≤ 2 ^ 32 + 4095 → count ≤ 32
         → Written b a (encode (composition n l i (answer - 2 ^ 32) (paired (take count indexes) (take count counts)))) r
@@ -119,7 +119,8 @@ module _ (shingles : List ℕ) (n l i : ℕ) (ids b : List ℕ) (answer : ℕ) (
         let few = paired-few (take count indexes) (take count counts) in
         let short = length-take count indexes in
         let size = ap length (c .few h) in
-        attempted (both-true (numbered ids) _ (number .0) (lt-ltb (length (refsOf (shinglesIn shingles) (l + 1) ids)) 33 (omega arith)))
+        let refs = refsOf (shinglesIn shingles) (l + 1) ids in
+        attempted (both-true (numbered ids) _ (number .0) (both-true (ltb (length refs) 33) _ (lt-ltb (length refs) 33 (omega arith)) (c .low h)))
         (retold (λ j. composition n l i (number .1 j) (c .few h j)) w)
 
 -- The composition of the node of entry k.

@@ -1,11 +1,12 @@
 -- Counting a pair among those of some children, and referring to each shingle whose pair stands there: the start, one turn, the end.
-use mathlib.Core.Bool.{Bool, true, false, cond}
+use mathlib.Core.Bool.{Bool, true, false, cond, _&&_, and-assoc, and-false}
 use mathlib.Core.List.{List, [], _∷_, _++_, append-nil}
 use mathlib.Core.Path.{_≡_, refl, sym, ap, _∙_}
 use Prim.Native.Nat.{ℕ, zero, suc, _+_, _≤_, _<_}
 use native.Mathlib.Numerals.{add-one}
 use native.Mathlib.Omega.{arith}
-use borrow.Author.Tests.{eq-eqb, ne-eqb}
+use borrow.Author.Tests.{eq-eqb, ne-eqb, lt-ltb, le-ltb}
+use lib.Dec.{ltb}
 use lib.ListN.{length, getD, take, drop, set, replicate, length-set, length-append, length-replicate, drop-of-length-le}
 use lib.Seq.{drop-cons, take-suc-set, append-snoc, length-take-le}
 use Rattle.entries.specs.Entries.{blank}
@@ -17,7 +18,7 @@ use Rattle.shingle.specs.Table.{shingleOf, shingleAt, shinglesIn}
 use Rattle.shingle.proofs.Reading.{listed-at}
 use Rattle.message.specs.Words.{Ref}
 use Rattle.message_writer.specs.Writing.{paired}
-use Rattle.protocol.specs.Sender.{refer, refsFrom, refsOf}
+use Rattle.protocol.specs.Sender.{refer, refsFrom, refsOf, indexed}
 use Rattle.reply.specs.Parts.{Referred}
 
 -- Each way out of comparing a pair.
@@ -85,13 +86,14 @@ pub record Referring (list : List Shingle) (l : ℕ) (ids : List ℕ) (k count :
   pub counts-room : length counts ≡ 32
   pub fits : count ≤ 32
   pub within : k ≤ length list
+  pub low : indexed (paired (take count indexes) (take count counts)) ≡ true
   pub rest : paired (take count indexes) (take count counts) ++ refsFrom k (drop k list) l ids ≡ refsOf list l ids
 
 pub refer-start : (list : List Shingle) (l : ℕ) (ids : List ℕ) → Referring list l ids 0 0 (replicate 32 0) (replicate 32 0)
-unfolding refsOf paired
+unfolding refsOf paired indexed
 refer-start list l ids =
     let room = length-replicate {A = ℕ} 32 0 in
-    record { indexes-room = room; counts-room = room; fits = omega arith; within = omega arith; rest = refl }
+    record { indexes-room = room; counts-room = room; fits = omega arith; within = omega arith; low = refl; rest = refl }
 
 paired-snoc : (xs ys : List ℕ) (x y : ℕ) → length xs ≡ length ys
     → paired (xs ++ x ∷ []) (ys ++ y ∷ []) ≡ paired xs ys ++ record { index = x; count = y } ∷ []
@@ -106,6 +108,11 @@ unfolding paired
 length-paired [] ys e = refl
 length-paired (a ∷ xs) [] e = absurd (omega arith)
 length-paired (a ∷ xs) (b ∷ ys) e = ap suc (length-paired xs ys (omega arith))
+
+indexed-append : (xs ys : List Ref) → indexed (xs ++ ys) ≡ (indexed xs && indexed ys)
+unfolding indexed
+indexed-append [] ys = refl
+indexed-append (x ∷ xs) ys = ap (λ (t : Bool). ltb (x .index) 4096 && t) (indexed-append xs ys) ∙ sym (and-assoc (ltb (x .index) 4096) (indexed xs) (indexed ys))
 
 referred : (i often : ℕ) (refs : List Ref) → (often ≡ 0 → ⊥) → refer i often refs ≡ record { index = i; count = often } ∷ refs
 unfolding refer
@@ -126,10 +133,13 @@ pub refer-end : (list : List Shingle) (l : ℕ) (ids : List ℕ) (k count : ℕ)
 unfolding refsFrom
 refer-end list l ids k count indexes counts h c =
     let fits = c .fits in
+    let all : paired (take count indexes) (take count counts) ≡ refsOf list l ids =
+    sym (append-nil (paired (take count indexes) (take count counts))) ∙ (rw (drop-of-length-le list {i = k} h) at (c .rest)) in
     record {
       indexes-room = c .indexes-room;
       counts-room = c .counts-room;
-      few = λ g. sym (append-nil (paired (take count indexes) (take count counts))) ∙ (rw (drop-of-length-le list {i = k} h) at (c .rest));
+      few = λ g. all;
+      low = λ g. ap indexed (sym all) ∙ c .low;
       many = λ g. absurd (omega arith);
     }
 
@@ -146,15 +156,20 @@ module _ (table : List ℕ) (l : ℕ) (ids : List ℕ) (k count : ℕ) (indexes 
         counts-room = c .counts-room;
         fits = c .fits;
         within = omega arith;
+        low = c .low;
         rest = ap (λ (r : List Ref). paired (take count indexes) (take count counts) ++ r) (sym (here ∙ unreferred k often _ z)) ∙ c .rest;
       }
+
+  narrow-one : (often : ℕ) → k ≤ 4095 → indexed (record { index = k; count = often } ∷ []) ≡ true
+  unfolding indexed
+  narrow-one often narrow = rw (lt-ltb k 4096 (omega (arith, narrow))) refl
 
   module _ (some : often ≡ 0 → ⊥) where
     one : refsFrom k (drop k (shinglesIn table)) l ids ≡ record { index = k; count = often } ∷ refsFrom (k + 1) (drop (k + 1) (shinglesIn table)) l ids
     one = here ∙ referred k often _ some
 
-    pub refer-more : (count ≡ 32 → ⊥) → Referring (shinglesIn table) l ids (k + 1) (count + 1) (set indexes count k) (set counts count often)
-    refer-more f =
+    pub refer-more : (count ≡ 32 → ⊥) → k ≤ 4095 → Referring (shinglesIn table) l ids (k + 1) (count + 1) (set indexes count k) (set counts count often)
+    refer-more f narrow =
         let fits = c .fits in
         let roomy = c .indexes-room in
         let roomier = c .counts-room in
@@ -162,23 +177,33 @@ module _ (table : List ℕ) (l : ℕ) (ids : List ℕ) (k count : ℕ) (indexes 
         let xs = take count indexes in
         let ys = take count counts in
         let same : length xs ≡ length ys = length-take-le count indexes (omega arith) ∙ sym (length-take-le count counts (omega arith)) in
+        let more : paired (take (count + 1) (set indexes count k)) (take (count + 1) (set counts count often)) ≡ paired xs ys ++ record { index = k; count = often } ∷ [] =
+        ap (λ (m : ℕ). paired (take m (set indexes count k)) (take m (set counts count often))) (add-one count)
+        ∙ (ap (λ (zs : List ℕ). paired zs (take (suc count) (set counts count often))) (take-suc-set indexes count k (omega arith))
+        ∙ (ap (paired (xs ++ k ∷ [])) (take-suc-set counts count often (omega arith)) ∙ paired-snoc xs ys k often same)) in
         record {
           indexes-room = length-set indexes count k ∙ roomy;
           counts-room = length-set counts count often ∙ roomier;
           fits = omega arith;
           within = omega arith;
+          low = ap indexed more ∙ (indexed-append (paired xs ys) (record { index = k; count = often } ∷ []) ∙ rw (c .low) (narrow-one often narrow));
           rest =
-              ap (λ (m : ℕ). paired (take m (set indexes count k)) (take m (set counts count often)) ++ rest) (add-one count)
-              ∙ (ap (λ (zs : List ℕ). paired zs (take (suc count) (set counts count often)) ++ rest) (take-suc-set indexes count k (omega arith))
-              ∙ (ap (λ (zs : List ℕ). paired (xs ++ k ∷ []) zs ++ rest) (take-suc-set counts count often (omega arith))
-              ∙ (ap (λ (zs : List Ref). zs ++ rest) (paired-snoc xs ys k often same)
+              ap (λ (zs : List Ref). zs ++ rest) more
               ∙ (append-snoc (paired xs ys) (record { index = k; count = often }) rest
-              ∙ (ap (λ (zs : List Ref). paired xs ys ++ zs) (sym one) ∙ c .rest)))));
+              ∙ (ap (λ (zs : List Ref). paired xs ys ++ zs) (sym one) ∙ c .rest));
         }
+
+    all-is : refsOf (shinglesIn table) l ids
+        ≡ paired (take count indexes) (take count counts) ++ record { index = k; count = often } ∷ refsFrom (k + 1) (drop (k + 1) (shinglesIn table)) l ids
+    all-is = sym (c .rest) ∙ ap (λ (zs : List Ref). paired (take count indexes) (take count counts) ++ zs) one
+
+    too-many : (ltb (length (refsOf (shinglesIn table) l ids)) 33 && indexed (refsOf (shinglesIn table) l ids)) ≡ false
+        → Referred (refsOf (shinglesIn table) l ids) 33 indexes counts
+    too-many e =
+        record { indexes-room = c .indexes-room; counts-room = c .counts-room; few = λ g. absurd (omega arith); low = λ g. absurd (omega arith); many = λ g. e }
 
     pub refer-full : count ≡ 32 → Referred (refsOf (shinglesIn table) l ids) 33 indexes counts
     refer-full f =
-        let fits = c .fits in
         let roomy = c .indexes-room in
         let roomier = c .counts-room in
         let rest = refsFrom (k + 1) (drop (k + 1) (shinglesIn table)) l ids in
@@ -187,7 +212,17 @@ module _ (table : List ℕ) (l : ℕ) (ids : List ℕ) (k count : ℕ) (indexes 
         let size : length xs ≡ count = length-take-le count indexes (omega arith) in
         let same : length xs ≡ length ys = size ∙ sym (length-take-le count counts (omega arith)) in
         let long : length (refsOf (shinglesIn table) l ids) ≡ count + suc (length rest) =
-        ap length (sym (c .rest) ∙ ap (λ (zs : List Ref). paired xs ys ++ zs) one)
+        ap length all-is
         ∙ (length-append (paired xs ys) (record { index = k; count = often } ∷ rest)
         ∙ ap (λ (m : ℕ). m + suc (length rest)) (length-paired xs ys same ∙ size)) in
-        record { indexes-room = roomy; counts-room = roomier; few = λ g. absurd (omega arith); many = λ g. omega arith }
+        too-many (rw (le-ltb (length (refsOf (shinglesIn table) l ids)) 33 (omega (arith, long, f))) refl)
+
+    -- An index that its field does not hold.
+    pub refer-far : 4095 < k → Referred (refsOf (shinglesIn table) l ids) 33 indexes counts
+    unfolding indexed
+    refer-far far =
+        let front = paired (take count indexes) (take count counts) in
+        let rest = refsFrom (k + 1) (drop (k + 1) (shinglesIn table)) l ids in
+        let wide : indexed (refsOf (shinglesIn table) l ids) ≡ false =
+        ap indexed all-is ∙ (indexed-append front (record { index = k; count = often } ∷ rest) ∙ rw (c .low, le-ltb k 4096 (omega (arith, far))) refl) in
+        too-many (rw wide (and-false (ltb (length (refsOf (shinglesIn table) l ids)) 33)))

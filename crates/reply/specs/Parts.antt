@@ -17,7 +17,7 @@ use Rattle.message.specs.declared.Message.the-variants.{Bad, OpeningQuery, Node
 use Rattle.message_writer.specs.Writing.{Written, paired}
 use Rattle.protocol.specs.Lent.{lent}
 use Rattle.protocol.specs.Nodes.{Entry, entryAt, inside, entriesFrom, entriesIn, fromFirst}
-use Rattle.protocol.specs.Sender.{childIds, composable, refsOf, referable, nodeReply, openingReply}
+use Rattle.protocol.specs.Sender.{childIds, composable, refsOf, indexed, referable, nodeReply, openingReply}
 use Rattle.reply.specs.declared.query.Query.{Query}
 
 -- What a message that was read asks: 1 for the opening, 2 for a node; else the number of the question that refuses it.
@@ -64,12 +64,13 @@ pub record Collected (all : List ℕ) (count : ℕ) (ids : List ℕ) : Type 0 wh
   pub few : count ≤ 32 → take count ids ≡ all
   pub many : 32 < count → 32 < length all
 
--- All of these references, if there are at most 32; else a count above 32.
+-- All of these references, if they can be written: at most 32, each index within its field; else a count above 32.
 pub record Referred (all : List Ref) (count : ℕ) (indexes counts : List ℕ) : Type 0 where
   pub indexes-room : length indexes ≡ 32
   pub counts-room : length counts ≡ 32
   pub few : count ≤ 32 → paired (take count indexes) (take count counts) ≡ all
-  pub many : 32 < count → 32 < length all
+  pub low : count ≤ 32 → indexed all ≡ true
+  pub many : 32 < count → (ltb (length all) 33 && indexed all) ≡ false
 
 -- The order has a number of at most 4,095.
 unfoldable pub numbered : List ℕ → Bool

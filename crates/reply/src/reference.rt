@@ -9,7 +9,8 @@ ghost use Rattle.protocol.specs.Sender.{refsOf};
 ghost use Rattle.reply.specs.Parts.{Referred};
 use shingle::Shingle;
 
-// Reference k has entry k of the indexes and of the counts. Their number, or 33 if they are more than 32.
+// Reference k has entry k of the indexes and of the counts. Their number, or 33 if they are more than 32 or an index needs more than its
+// 12 bits.
 pub struct References {
     pub count: usize,
     pub indexes: [u64; 32],
@@ -64,6 +65,13 @@ pub fn refer(shingles: &[u8], level: u64, ids: &[u64]) -> References
         k += 1;
         if often != 0 {
             if count == 32 {
+                return References {
+                    count: 33,
+                    indexes,
+                    counts,
+                };
+            }
+            if 4095 < index {
                 return References {
                     count: 33,
                     indexes,

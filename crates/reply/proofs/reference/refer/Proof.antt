@@ -5,7 +5,7 @@ use native.Mathlib.Omega.{arith}
 use borrow.Author.Needs.{needs}
 use lib.ListN.{length}
 use Rattle.shingle.specs.Table.{shinglesIn}
-use Rattle.reply.proofs.Referring.{Referring, refer-start, refer-pass, refer-more, refer-full, refer-end}
+use Rattle.reply.proofs.Referring.{Referring, refer-start, refer-pass, refer-more, refer-full, refer-far, refer-end}
 use Rattle.reply.proofs.reference.refer.Statement.{statement}
 use Rattle.reply.proofs.reference.refer.Tie as tie
 
@@ -38,21 +38,28 @@ returns c =
     refer-full _ _ _ _ _ _ _ (omega (arith, turn .before .loop .inv .0, turn .loop-test .taken)) (turn .before .loop .inv .1) _
     (read .shingle-at .ensures) _ (c .before .before .times .ensures) (c .before .if1 .taken) (c .if2 .taken)
 
+returns-2 : tie.Need-returns-2 Inv-loop μ-loop
+returns-2 c =
+    let read = c .before .before .before .before in
+    let turn = read .before in
+    refer-far _ _ _ _ _ _ _ (omega (arith, turn .before .loop .inv .0, turn .loop-test .taken)) (turn .before .loop .inv .1) _
+    (read .shingle-at .ensures) _ (c .before .before .before .times .ensures) (c .before .before .if1 .taken) (omega (arith, c .if3 .taken))
+
 mul-indexes : tie.Need-mul-indexes Inv-loop μ-loop
 mul-indexes c = search needs
 
 array-write-indexes : tie.Need-array-write-indexes Inv-loop μ-loop
 array-write-indexes c =
-    let inv = c .before .before .before .before .before .loop .inv .1 in
-    omega (arith, inv .fits, c .if2 .left, inv .indexes-room)
+    let inv = c .before .before .before .before .before .before .loop .inv .1 in
+    omega (arith, inv .fits, c .before .if2 .left, inv .indexes-room)
 
 mul-counts : tie.Need-mul-counts Inv-loop μ-loop
 mul-counts c = search needs
 
 array-write-counts : tie.Need-array-write-counts Inv-loop μ-loop
 array-write-counts c =
-    let inv = c .before .before .before .before .before .loop .inv .1 in
-    omega (arith, inv .fits, c .if2 .left, inv .counts-room)
+    let inv = c .before .before .before .before .before .before .loop .inv .1 in
+    omega (arith, inv .fits, c .before .if2 .left, inv .counts-room)
 
 add-count : tie.Need-add-count Inv-loop μ-loop
 add-count c = search needs
@@ -62,11 +69,11 @@ loop-less c = search needs
 
 loop-again : tie.Need-loop-again Inv-loop μ-loop
 loop-again c =
-    let read = c .before .before .before in
+    let read = c .before .before .before .before in
     let turn = read .before in (
       turn .before .loop .inv .0,
       refer-more _ _ _ _ _ _ _ (omega (arith, turn .before .loop .inv .0, turn .loop-test .taken)) (turn .before .loop .inv .1) _
-          (read .shingle-at .ensures) _ (c .before .before .times .ensures) (c .before .if1 .taken) (c .if2 .left),
+          (read .shingle-at .ensures) _ (c .before .before .before .times .ensures) (c .before .before .if1 .taken) (c .before .if2 .left) (omega (arith, c .if3 .left)),
     )
 
 loop-less-2 : tie.Need-loop-less-2 Inv-loop μ-loop
@@ -81,8 +88,8 @@ loop-again-2 c =
           (read .shingle-at .ensures) _ (c .before .times .ensures) (c .if1 .left),
     )
 
-returns-2 : tie.Need-returns-2 Inv-loop μ-loop
-returns-2 c = refer-end _ _ _ _ _ _ _ (omega (arith, c .before .loop .inv .0, c .loop-test .left)) (c .before .loop .inv .1)
+returns-3 : tie.Need-returns-3 Inv-loop μ-loop
+returns-3 c = refer-end _ _ _ _ _ _ _ (omega (arith, c .before .loop .inv .0, c .loop-test .left)) (c .before .loop .inv .1)
 
 pub refer-spec : {M : Type 1} → statement M
 refer-spec =
@@ -96,6 +103,7 @@ refer-spec =
     times-requires
     add-k
     returns
+    returns-2
     mul-indexes
     array-write-indexes
     mul-counts
@@ -105,4 +113,4 @@ refer-spec =
     loop-again
     loop-less-2
     loop-again-2
-    returns-2)
+    returns-3)
