@@ -12,13 +12,13 @@ use Rattle.message.specs.Fields.{read, one, number, value, valuesAre}
 use Rattle.message.specs.Messages.{typeOf, cellValues, bodyOf, parseWords, parse}
 use Rattle.message.specs.declared.Message.{Message}
 use Rattle.message.specs.declared.Message.the-variants.{Bad, OpeningQuery, NodeQuery, Opening, Composition, Literal, NoNode}
-use Rattle.message.specs.Reading.{meant, Counted, Reads, ReadsBody, numbersAre, References, Texts, pairIs, openingAt, numberOf, typeAnswer}
+use Rattle.message.specs.Reading.{meant, Placed, Counted, Reads, ReadsBody, numbersAre, References, Texts, pairIs, openingAt, numberOf, typeAnswer}
 use Rattle.message.proofs.Words.{rest-below}
 use Rattle.message.proofs.Reading.{opening-query-form, node-query-form, no-node-form, literal-form, composition-form, opening-form}
 
 module _ (s : List ℕ) (n : ℕ) where
   pub bad : (t : ℕ) → bodyOf (length (linkWords s)) n t (drop 1 (linkWords s)) ≡ none → ReadsBody s n t Bad
-  bad t e = record { message = sym e; counted = tt }
+  bad t e = record { message = sym e; placed = tt; counted = tt }
 
   abbrev endsAt : ℕ → Bool
   endsAt k = isEnd (length (linkWords s)) (drop k (linkWords s))
@@ -27,7 +27,7 @@ module _ (s : List ℕ) (n : ℕ) where
   opening-query-no-end e = bad 1 (opening-query-form (linkWords s) (length (linkWords s)) n ∙ rw e)
 
   pub opening-query-read : endsAt 1 ≡ true → ReadsBody s n 1 (OpeningQuery n)
-  opening-query-read e = record { message = sym (opening-query-form (linkWords s) (length (linkWords s)) n ∙ rw e); counted = tt }
+  opening-query-read e = record { message = sym (opening-query-form (linkWords s) (length (linkWords s)) n ∙ rw e); placed = tt; counted = tt }
 
   pub node-query-no-pair : pairIs (linkWords s) ≡ false → ReadsBody s n 2 Bad
   node-query-no-pair p = bad 2 (node-query-form (linkWords s) (length (linkWords s)) n ∙ rw p)
@@ -53,10 +53,10 @@ module _ (s : List ℕ) (n : ℕ) where
 
     module _ (l i : ℕ) (is-l : l ≡ number .of (drop 1 (linkWords s))) (is-i : i ≡ value .of (drop 2 (linkWords s))) where
       pub node-query-read : endsAt 5 ≡ true → ReadsBody s n 2 (NodeQuery n l i)
-      node-query-read e = record { message = sym (node-query-form (linkWords s) (length (linkWords s)) n ∙ rw (p, e, is-l, is-i)); counted = tt }
+      node-query-read e = record { message = sym (node-query-form (linkWords s) (length (linkWords s)) n ∙ rw (p, e, is-l, is-i)); placed = tt; counted = tt }
 
       pub no-node-read : endsAt 5 ≡ true → ReadsBody s n 6 (NoNode n l i)
-      no-node-read e = record { message = sym (no-node-form (linkWords s) (length (linkWords s)) n ∙ rw (p, e, is-l, is-i)); counted = tt }
+      no-node-read e = record { message = sym (no-node-form (linkWords s) (length (linkWords s)) n ∙ rw (p, e, is-l, is-i)); placed = tt; counted = tt }
 
     module _ (end count : ℕ) (texts : Texts (linkWords s) 5 end count) where
       pub literal-no-end : endsAt end ≡ false → ReadsBody s n 5 Bad
@@ -65,7 +65,7 @@ module _ (s : List ℕ) (n : ℕ) where
       pub literal-read : (l i : ℕ) → l ≡ number .of (drop 1 (linkWords s)) → i ≡ value .of (drop 2 (linkWords s)) → endsAt end ≡ true
           → ReadsBody s n 5 (Literal n l i 5 count)
       literal-read l i is-l is-i e =
-          record { message = sym (literal-form (linkWords s) (length (linkWords s)) n ∙ rw (p, texts .after, e, is-l, is-i)); counted = texts .count-is }
+          record { message = sym (literal-form (linkWords s) (length (linkWords s)) n ∙ rw (p, texts .after, e, is-l, is-i)); placed = refl; counted = texts .count-is }
 
     module _ (x : number .is (drop 5 (linkWords s)) ≡ true) (sound : Bool) (end : ℕ) (refs : References (linkWords s) 6 sound end) where
       pub composition-twice : sound ≡ false → ReadsBody s n 4 Bad
@@ -80,6 +80,7 @@ module _ (s : List ℕ) (n : ℕ) where
           let c = refs .count o in
           record {
             message = sym (composition-form (linkWords s) (length (linkWords s)) n ∙ rw (p, x, sym (refs .once) ∙ o, refs .after o, e, is-l, is-i, is-y));
+            placed = refl;
             counted = omega arith;
           }
 
@@ -100,9 +101,9 @@ module _ (s : List ℕ) (n : ℕ) where
       opening-no-end e f = bad 3 (opening-form (linkWords s) (length (linkWords s)) n ∙ rw (p, v, ← is-q, e, f))
 
       pub opening-read : (m : Message) → valuesAre (q * 3 * 5) (drop 11 (linkWords s)) ≡ true → endsAt (11 + q * 3 * 5 * 3) ≡ true
-          → meant (linkWords s) m ≡ some (openingAt (linkWords s) n) → Counted (linkWords s) m → ReadsBody s n 3 m
+          → meant (linkWords s) m ≡ some (openingAt (linkWords s) n) → Placed m → Counted (linkWords s) m → ReadsBody s n 3 m
       unfolding cellValues
-      opening-read m e f is count = record { message = is ∙ sym (opening-form (linkWords s) (length (linkWords s)) n ∙ rw (p, v, ← is-q, e, f)); counted = count }
+      opening-read m e f is place count = record { message = is ∙ sym (opening-form (linkWords s) (length (linkWords s)) n ∙ rw (p, v, ← is-q, e, f)); placed = place; counted = count }
 
 -- The type's number decides the form.
 pub no-type : (s : List ℕ) (n t : ℕ) → (t ≡ 1 → ⊥) → (t ≡ 2 → ⊥) → (t ≡ 3 → ⊥) → (t ≡ 4 → ⊥) → (t ≡ 5 → ⊥) → (t ≡ 6 → ⊥) → ReadsBody s n t Bad
@@ -112,17 +113,17 @@ no-type s n t a b c d e f = bad s n t (rw (ne-eqb t 1 a, ne-eqb t 2 b, ne-eqb t 
 -- The whole message.
 pub read-not-whole : (s : List ℕ) → (length s % 4 ≡ 0 → ⊥) → Reads s Bad
 unfolding parse
-read-not-whole s h = record { message = rw (ne-eqb (length s % 4) 0 h); counted = tt }
+read-not-whole s h = record { message = rw (ne-eqb (length s % 4) 0 h); placed = tt; counted = tt }
 
 module _ (s : List ℕ) (whole : length s % 4 ≡ 0) (w k : ℕ) (first : w ≡ getD (linkWords s) 0 0) (kind : k ≡ kindOf w) where
   pub read-no-head : (k ≡ 1 → ⊥) → Reads s Bad
   unfolding parse parseWords read one headWord
-  read-no-head h = record { message = rw (eq-eqb (length s % 4) 0 whole, ← first, ← kind, ne-eqb k 1 h); counted = tt }
+  read-no-head h = record { message = rw (eq-eqb (length s % 4) 0 whole, ← first, ← kind, ne-eqb k 1 h); placed = tt; counted = tt }
 
   pub read-whole : k ≡ 1 → (x : ℕ) → x ≡ restOf w → (m : Message) → ReadsBody s (x % 2 ^ 24) (x / 2 ^ 24) m → Reads s m
   unfolding parse parseWords read one headWord
   read-whole h x e m b =
-      record { message = b .message ∙ rw (eq-eqb (length s % 4) 0 whole, ← first, ← kind, eq-eqb k 1 h, ← e); counted = b .counted }
+      record { message = b .message ∙ rw (eq-eqb (length s % 4) 0 whole, ← first, ← kind, eq-eqb k 1 h, ← e); placed = b .placed; counted = b .counted }
 
 number-meant : (ws : List ℕ) (m : Message) → numberOf m ≡ typeAnswer (meant ws m)
 unfolding typeAnswer typeOf

@@ -21,6 +21,17 @@ meant ws (Composition n l i x at count) = some (composition n l i x (manyFrom re
 meant ws (Literal n l i at count) = some (literal n l i (textFrom (drop at ws)))
 meant ws (NoNode n l i) = some (noNode n l i)
 
+-- Where they stand. An opening's cells come after the head, seven numbers and the root id in three words; references after the head, the
+-- level, the id in three words and the trail number; bytes after the head, the level and the id.
+abbrev pub Placed : Message → Type 0
+Placed Bad = Unit {0}
+Placed (OpeningQuery n) = Unit {0}
+Placed (NodeQuery n l i) = Unit {0}
+Placed (Opening n rule w p L M q len root at) = at ≡ 11
+Placed (Composition n l i x at count) = at ≡ 6
+Placed (Literal n l i at count) = at ≡ 5
+Placed (NoNode n l i) = Unit {0}
+
 -- How many references or bytes there are.
 abbrev pub Counted : List ℕ → Message → Type 0
 Counted ws Bad = Unit {0}
@@ -34,6 +45,7 @@ Counted ws (NoNode n l i) = Unit {0}
 -- What reading the bytes s answers.
 pub record Reads (s : List ℕ) (answer : Message) : Type 0 where
   pub message : meant (linkWords s) answer ≡ parse s
+  pub placed : Placed answer
   pub counted : Counted (linkWords s) answer
 
 -- The number of each case: a message's type, and question 10 for one that is not well formed.
@@ -81,6 +93,7 @@ pairIs ws = number .is (drop 1 ws) && value .is (drop 2 ws)
 -- What reading a message's body answers, in a message of that session and type.
 pub record ReadsBody (s : List ℕ) (session type : ℕ) (answer : Message) : Type 0 where
   pub message : meant (linkWords s) answer ≡ bodyOf (length (linkWords s)) session type (drop 1 (linkWords s))
+  pub placed : Placed answer
   pub counted : Counted (linkWords s) answer
 
 -- An opening by its places.

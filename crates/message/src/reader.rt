@@ -5,7 +5,7 @@ ghost use Prim.Native.Nat.{_<_, min};
 ghost use lib.ListN.{length, getD, drop};
 ghost use Rattle.message.specs.Words.{linkWords};
 ghost use Rattle.message.specs.Messages.{parse};
-ghost use Rattle.message.specs.Reading.{meant, Counted, Reads, ReadsBody, pairIs, openingAt, numberOf, typeAnswer};
+ghost use Rattle.message.specs.Reading.{meant, Placed, Counted, Reads, ReadsBody, pairIs, openingAt, numberOf, typeAnswer};
 ghost use Rattle.message.specs.Parts.{CellRead, ReferenceRead, Copied, threeEach};
 use crate::Message;
 use crate::field::is_end;
@@ -121,7 +121,7 @@ fn composition(message: &[u8], session: u64) -> Message
 
 // The opening that stands in the message, if it is well formed.
 fn opening_at(message: &[u8], session: u64) -> Message
-    ensures { λ r. ⌜ (meant (linkWords (now (message .entry))) r ≡ some (openingAt (linkWords (now (message .entry))) session)) × Counted (linkWords (now (message .entry))) r ⌝ }
+    ensures { λ r. ⌜ (meant (linkWords (now (message .entry))) r ≡ some (openingAt (linkWords (now (message .entry))) session)) × Placed r × Counted (linkWords (now (message .entry))) r ⌝ }
 {
     let rule = number_at(message, 1);
     let w = number_at(message, 2);

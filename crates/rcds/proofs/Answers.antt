@@ -56,7 +56,7 @@ module _ (ids : List ℕ) where
       ∙ (ap (λ (n : ℕ). take n (column 32 1 0 (wordsOf ids))) (sym (length-words ids)) ∙ column-front (wordsOf ids) 32 (simp length-words h)) in
       a ∙ (ap numberAnswer rows ∙ rw (eq-eqb (length ids % 8) 0 e))
 
-length-column : (n step p : ℕ) (ws : List ℕ) → length (column n step p ws) ≡ n
+pub length-column : (n step p : ℕ) (ws : List ℕ) → length (column n step p ws) ≡ n
 unfolding column
 length-column zero step p ws = refl
 length-column (suc n) step p ws = ap suc (length-column n step (p + step) ws)

@@ -52,7 +52,7 @@ opening-at-requires : tie.Need-opening-at-requires
 opening-at-requires c κs = search needs
 
 returns-5 : tie.Need-returns-5
-returns-5 c = opening-read _ (c .before .before .before .before .before .before .before .before .before .before .before .args .session) (sym (c .before .before .before .before .before .before .before .before .before .seven-numbers .ensures) ∙ not-false _ (c .before .before .before .before .before .before .before .before .if1 .left)) (sym (c .before .before .before .before .before .before .before .is-value .ensures) ∙ not-false _ (c .before .before .before .before .before .before .if2 .left)) _ (c .before .before .before .before .before .number-at .ensures) _ (sym (c .before .before .before .before .are-values .ensures) ∙ not-false _ (c .before .before .before .if3 .left)) (sym (c .before .before .is-end .ensures) ∙ not-false _ (c .before .if4 .left)) (c .opening-at .ensures .0) (c .opening-at .ensures .1)
+returns-5 c = opening-read _ (c .before .before .before .before .before .before .before .before .before .before .before .args .session) (sym (c .before .before .before .before .before .before .before .before .before .seven-numbers .ensures) ∙ not-false _ (c .before .before .before .before .before .before .before .before .if1 .left)) (sym (c .before .before .before .before .before .before .before .is-value .ensures) ∙ not-false _ (c .before .before .before .before .before .before .if2 .left)) _ (c .before .before .before .before .before .number-at .ensures) _ (sym (c .before .before .before .before .are-values .ensures) ∙ not-false _ (c .before .before .before .if3 .left)) (sym (c .before .before .is-end .ensures) ∙ not-false _ (c .before .if4 .left)) (c .opening-at .ensures .0) (c .opening-at .ensures .1) (c .opening-at .ensures .2)
 
 pub opening-spec : {M : Type 1} → statement M
 opening-spec = tie.close (tie.spec seven-numbers-requires returns is-value-requires returns-2 number-at-requires mul-values mul-values-2 are-values-requires returns-3 mul-end add-end is-end-requires returns-4 opening-at-requires returns-5)
