@@ -8,7 +8,7 @@ use borrow.Author.Tests.{ne-eqb, le-leb, lt-leb}
 use lib.ListN.{length}
 use Rattle.protocol.specs.Lent.{Lent}
 use Rattle.protocol.specs.State.{State}
-use Rattle.protocol.specs.Receiver.{Answer, refused, waiting, handed, numberOf, Result, takeMessage}
+use Rattle.protocol.specs.Receiver.{refused, waiting, handed, numberOf, Result, takeMessage}
 use Rattle.protocol.proofs.Cases.{sizeIn, refused-not, waiting-not}
 use Rattle.protocol.proofs.Refusals.{Verdict, early, late, further, done, verdict}
 use Rattle.demand.specs.Made.{answerOf}

@@ -1,7 +1,8 @@
--- Why trails are numbered and ordered again, why demand 3 holds of the calls that C makes, why what a sender writes is a message and genuine,
--- and why a session between two ends goes through.
+-- Of the calls from C, why: what a refused message leaves, trails, demand 3, what a sender writes; and why a session between two ends goes
+-- through.
 pub mod Answers
 pub mod Demand
+pub mod Refusing
 pub mod Sizes
 pub mod Round
 pub mod Session

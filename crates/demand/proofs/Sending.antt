@@ -1,6 +1,6 @@
 -- What a sender that was set up writes: a reply that was written is that of the definition to the query that was read.
-use mathlib.Core.Bool.{Bool, true, false, cond}
-use mathlib.Core.List.{List, [], _++_}
+use mathlib.Core.Bool.{Bool, true}
+use mathlib.Core.List.{List, []}
 use mathlib.Core.Option.{Option, none, some}
 use mathlib.Core.Path.{_≡_, refl, sym, ap, subst, _∙_}
 use Prim.Native.Nat.{ℕ, _+_, _-_, _^_, _≤_, _<_}
@@ -18,7 +18,7 @@ use Rattle.message.specs.Fields.{Every as All}
 use Rattle.message.specs.Messages.{Msg, openingQuery, Parts, Valid, encode, parse}
 use Rattle.message.proofs.Messages.{parse-encode, encode-parse}
 use Rattle.protocol.specs.Lent.{Lent, lent, refusedBy}
-use Rattle.protocol.specs.Sender.{Written, unwritten, writing, openingReply, replyTo, replying, hearing, reply}
+use Rattle.protocol.specs.Sender.{Written, writing, openingReply, replyTo, replying, hearing, reply}
 use Rattle.protocol.specs.Calls.{Every}
 use Rattle.protocol.specs.Genuine.{Accepted}
 use Rattle.protocol.specs.Demand.{SetupAccepts, leftBySetup, Announces}
@@ -29,7 +29,7 @@ use Rattle.protocol.proofs.Announcing.{own-opening-announces}
 use Rattle.reply.specs.Reply.{Replied}
 use Rattle.sender.specs.State.{settingsIn, SenderSetUp}
 use Rattle.sender.proofs.Accepted.{settings-kept}
-use Rattle.demand.specs.Sending.{IsMessage, MessageOfCalls, OwnOpeningOfCalls, RepliesTo, GenuineOfCalls}
+use Rattle.demand.specs.Sending.{MessageOfCalls, OwnOpeningOfCalls, RepliesTo, GenuineOfCalls}
 
 -- A reply was written: to the query read, as the definition has it.
 record Wrote (σ : Settings) (m : Lent) (message : List ℕ) (w : Written) : Type 0 where
