@@ -50,9 +50,6 @@ module _ (w h s : ℕ) (bytes : List ℕ) where
   pub cuts-rise : Spread 0 0 (cutsOf w h s bytes) (length bytes)
   cuts-rise = weaker cuts-spread (omega arith) (omega arith) (omega arith)
 
-  pub cuts-rise-strictly : 1 ≤ h → Spread 1 1 (cutsOf w h s bytes) (length bytes)
-  cuts-rise-strictly l = weaker cuts-spread l l (omega arith)
-
   pub cuts-few : length (cutsOf w h s bytes) ≤ 31
   unfolding cutsOf
   cuts-few = simp length-take (omega arith)

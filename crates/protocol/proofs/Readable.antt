@@ -2,11 +2,11 @@
 use mathlib.Core.Bool.{true, _&&_}
 use mathlib.Core.List.{List, [], _∷_}
 use mathlib.Core.Option.{some}
-use mathlib.Core.Path.{_≡_, sym, subst}
+use mathlib.Core.Path.{_≡_, subst}
 use Prim.Native.Nat.{ℕ, zero, suc, _+_, _*_, _^_, _≤_, _<_}
 use native.Mathlib.Omega.{arith}
 use lib.Dec.{eqb, ltb}
-use lib.ListN.{length, getD, take, drop, length-append, length-take, length-drop}
+use lib.ListN.{length, getD, drop, length-append, length-take, length-drop}
 use borrow.Author.Tests.{ltb-true}
 use Rattle.rows.specs.Rows.{wordsOf}
 use Rattle.tree.specs.declared.Settings.{Settings}
@@ -22,13 +22,13 @@ use Rattle.setup.proofs.Questions.{Lent as Passed, lent as lent-passed}
 use Rattle.trail.specs.Trails.{trailNumber}
 use Rattle.trail.specs.Calls.{nonzero}
 use Rattle.trail.proofs.Answers.{number-small}
-use Rattle.message.specs.Words.{Ref, plain, referenceWord}
+use Rattle.message.specs.Words.{plain, referenceWord}
 use Rattle.message.specs.Fields.{one, value, values, valuesTo, many, manyTo, only}
 use Rattle.message.specs.Fields.{Every as All}
 use Rattle.message.specs.Messages.{Msg, openingQuery, nodeQuery, opening, composition, literal, noNode, cellValues, headed, wordsThen, sizeOf, Parts, Valid}
 use Rattle.protocol.specs.Lent.{Lent, refusedBy}
 use Rattle.protocol.specs.Nodes.{Entry, inside, entriesIn, fromFirst, blockIn}
-use Rattle.protocol.specs.Sender.{ruleNumber, childIds, composable, refsOf, indexed, referable, nodeReply, openingReply, replyTo}
+use Rattle.protocol.specs.Sender.{childIds, composable, refsOf, indexed, referable, nodeReply, openingReply, replyTo}
 use Rattle.protocol.specs.Calls.{Every}
 use Rattle.protocol.proofs.Cases.{chosen, same-message, no-message}
 use Rattle.protocol.proofs.Valid.{references-fit, length-values, length-references, all-take, every-drop, Printable, valid-none, valid-literal}

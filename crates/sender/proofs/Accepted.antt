@@ -1,19 +1,16 @@
 -- What later calls rely on: after a yes the state is read back as the settings, and it keeps its length.
-use mathlib.Core.Bool.{Bool, true, false, cond}
 use mathlib.Core.List.{List, [], _++_}
-use mathlib.Core.Path.{_≡_, refl, ap, _∙_}
-use Prim.Native.Nat.{ℕ, _+_, _-_, _^_, _<_}
+use mathlib.Core.Path.{_≡_, ap, _∙_}
+use Prim.Native.Nat.{ℕ, _+_, _^_, _<_}
 use native.Mathlib.Omega.{arith}
-use borrow.Author.Tests.{eqb-true, leb-true}
-use lib.Dec.{eqb, leb}
-use lib.ListN.{length, getD, drop, length-append, length-drop}
+use lib.Dec.{leb}
+use lib.ListN.{length, getD, drop}
 use Rattle.rows.specs.Rows.{wordsOf}
 use Rattle.tree.specs.declared.Settings.{Settings}
 use Rattle.tree.proofs.Questions.{granted}
 use Rattle.sketch.specs.Sums.{rowBytes}
-use Rattle.sketch.proofs.Sums.{length-rows}
 use Rattle.setup.specs.Questions.{setupRefusal}
-use Rattle.setup.proofs.Accepted.{lent-after-yes, other-after-yes}
+use Rattle.setup.proofs.Accepted.{lent-after-yes}
 use Rattle.sender.specs.State.{settingsRows, settingsIn, stateAfter, SenderSetUp}
 use Rattle.sender.proofs.Rows.{no-rows, row-back}
 
@@ -48,13 +45,3 @@ module _ (σ : Settings) (string nodes nodes′ shingles shingles′ cells cells
       (ap wordsOf (written e)
       ∙ settings-words σ (drop 40 state) (omega (arith, bounds .window-high)) (omega (arith, bounds .fan-out-high))
       (omega (arith, bounds .levels-high)) (omega (arith, bounds .nominal-high)) (omega (arith, given .width-high)))
-
-  pub state-length : length state′ ≡ length state
-  unfolding stateAfter settingsRows
-  state-length = go (eqb refused-by 0) refl (made .state-is)
-    where
-      go : (b : Bool) → eqb refused-by 0 ≡ b → state′ ≡ cond b (rowBytes (settingsRows σ) ++ drop 40 state) state → length state′ ≡ length state
-      go true e f =
-          let long = leb-true 40 (length state) (other-after-yes _ _ _ _ _ _ _ _ _ _ (made .tables) (eqb-true refused-by 0 e)) in
-          ap length f ∙ simp (length-append, length-rows, length-drop) (omega arith)
-      go false e f = ap length f

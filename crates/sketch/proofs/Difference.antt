@@ -4,7 +4,7 @@ use mathlib.Core.Bool.{Bool, true, false, cond, not, _&&_, _||_}
 use mathlib.Core.List.{List, [], _∷_, _++_, append-assoc}
 use mathlib.Core.Path.{_≡_, refl, sym, ap, _∙_}
 use Prim.Native.Nat.{ℕ, _+_, _*_, _%_, _^_, _<_}
-use native.Mathlib.Nat.{mod-lt, add-comm, add-mod, mod-add-mod}
+use native.Mathlib.Nat.{mod-lt, add-mod, mod-add-mod}
 use native.Mathlib.Omega.{arith}
 use lib.Dec.{eqb}
 use lib.ListN.{length, getD}
@@ -215,12 +215,6 @@ unfolding cellsOf signedCells
 difference q {theirs} {own} r p =
     subtract (q * 15) (allParts q theirs) (allParts q own)
     ∙ same-sums (q * 15) (allParts q theirs ++ negated (allParts q own)) (allSigned q (trueDifference theirs own)) (λ k. same-row q k r p)
-
--- The order of the summands does not matter.
-pub sums-swap : (n : ℕ) (a b : List Part) → sums n (a ++ b) ≡ sums n (b ++ a)
-sums-swap n a b =
-    same-sums n (a ++ b) (b ++ a)
-    (λ k. ap (λ (m : ℕ). m % 2 ^ 64) (sum-append k a b ∙ (add-comm (sumAt k a) (sumAt k b) ∙ sym (sum-append k b a))))
 
 -- Adding to the rows is adding summands.
 pub plus-sums : (n : ℕ) (ps qs : List Part) → plus (sums n ps) qs ≡ sums n (ps ++ qs)
