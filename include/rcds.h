@@ -507,8 +507,10 @@ uint64_t rcds_query(const uint8_t *state, size_t state_len,
  * Refused by 1 to 11: nothing is changed. Refused by 12 to 19: the session has
  * ended, every lent byte of output is zero, and the shingle table is unchanged.
  *
- * What stands in the state at places of the pile that are not in use is not
- * promised. The bytes after the first RCDS_RECEIVER_STATE_BYTES are unchanged.
+ * Unless refused by 1 to 11, each of the first RCDS_RECEIVER_STATE_BYTES bytes of
+ * the state is written: places of the pile that are not in use are zero, and a
+ * state that has ended is zero but for its settings, session and phase. The bytes
+ * after them are unchanged.
  */
 uint64_t rcds_take(uint8_t *state, size_t state_len,
                    const uint8_t *own, size_t own_len,

@@ -9,13 +9,14 @@ use lib.ListN.{length}
 use Rattle.protocol.specs.State.{over, going}
 use Rattle.protocol.specs.Receiver.{Settled, tooLong, left, Result, refused, handed, waiting, numberOf}
 use Rattle.copying.specs.declared.Waiting.{Waiting}
-use Rattle.copying.specs.Copying.{settledFrom}
+use Rattle.copying.specs.Copying.{pileOf, settledFrom}
 use Rattle.handover.specs.declared.Outcome.{Outcome}
 use Rattle.handover.specs.Handover.{whole, answerOf, Concluded}
 use Rattle.handover.proofs.Outcomes.{refuses, hands, goes-on}
 use Rattle.state.specs.declared.Receiver.{Receiver}
 use Rattle.state.specs.declared.Taken.{Taken}
-use Rattle.state.specs.Receivers.{stateOf, Ends, Goes}
+use Rattle.state.specs.Receivers.{stateOf, Holds}
+use Rattle.state.proofs.Keeping.{holds-by}
 use Rattle.advance.specs.Advance.{Advanced}
 
 abbrev taking : ℕ → Receiver → Taken
@@ -41,7 +42,7 @@ module _ {string nodes : List ℕ} {size root : ℕ} {before after : List ℕ} {
       (answer-apart size root (settledFrom string nodes size before built waits places))
 
   -- The session is over: refused, or the string handed over.
-  pub advanced-over : {s s′ : Receiver} {taken : ℕ} → (o .answer ≡ 0 → ⊥) → Ends s s′
+  pub advanced-over : {s s′ : Receiver} {taken : ℕ} → (o .answer ≡ 0 → ⊥) → Holds (over (stateOf s)) s′
       → Advanced s size root taken string nodes before after built waits places (taking (o .answer) s′)
   unfolding numberOf
   advanced-over {s = s} {taken = taken} fails over-is =
@@ -55,7 +56,7 @@ module _ {string nodes : List ℕ} {size root : ℕ} {before after : List ℕ} {
                   let e = refuses c (stateOf s) m table taken behind long above small in
                   record {
                     answer = sym (ap (λ (R : Result). numberOf (R .answer)) e);
-                    state = over-is .state ∙ sym (ap (λ (R : Result). R .state) e);
+                    state = holds-by (ap (λ (R : Result). R .state) e) over-is;
                     refused = λ h k. ap (λ (R : Result). R .lent) e;
                     going = λ z. absurd (fails z);
                     handed = λ h. absurd (omega (arith, h, small));
@@ -64,7 +65,7 @@ module _ {string nodes : List ℕ} {size root : ℕ} {before after : List ℕ} {
                   let e = hands c (stateOf s) m table taken behind long (omega (arith, large)) in
                   record {
                     answer = e .0 ∙ sym (ap (λ (R : Result). numberOf (R .answer)) (e .1));
-                    state = over-is .state ∙ sym (ap (λ (R : Result). R .state) (e .1));
+                    state = holds-by (ap (λ (R : Result). R .state) (e .1)) over-is;
                     refused = λ h k. absurd (large k);
                     going = λ z. absurd (fails z);
                     handed = λ h. ap (λ (R : Result). R .lent) (e .1);
@@ -73,7 +74,8 @@ module _ {string nodes : List ℕ} {size root : ℕ} {before after : List ℕ} {
       }
 
   -- The session goes on.
-  pub advanced-on : {s s′ : Receiver} {taken : ℕ} → o .answer ≡ 0 → length after ≡ length before → Goes s size root (o .built) taken (o .waiting) places s′
+  pub advanced-on : {s s′ : Receiver} {taken : ℕ} → o .answer ≡ 0 → length after ≡ length before
+      → Holds (going (stateOf s) size root (o .built) taken (pileOf (o .waiting) places)) s′
       → Advanced s size root taken string nodes before after built waits places (taking (o .answer) s′)
   unfolding numberOf
   advanced-on {s = s} {taken = taken} zero same on =
@@ -84,7 +86,7 @@ module _ {string nodes : List ℕ} {size root : ℕ} {before after : List ℕ} {
             let e = goes-on c (stateOf s) m table taken behind long same zero in
             record {
               answer = zero ∙ sym (ap (λ (R : Result). numberOf (R .answer)) e);
-              state = on .state ∙ sym (ap (λ (R : Result). R .state) e);
+              state = holds-by (ap (λ (R : Result). R .state) e) on;
               refused = λ h k. absurd (omega (arith, h, zero));
               going = λ z. ap (λ (R : Result). R .lent) e;
               handed = λ h. absurd (omega (arith, h, zero));

@@ -10,18 +10,18 @@ use Rattle.copying.specs.declared.Waiting.{Waiting}
 use Rattle.copying.specs.Copying.{settledFrom}
 use Rattle.state.specs.declared.Receiver.{Receiver}
 use Rattle.state.specs.declared.Taken.{Taken}
-use Rattle.state.specs.Receivers.{stateOf}
+use Rattle.state.specs.Receivers.{stateOf, Holds}
 
 -- A question's no: the session is over, and the output is zero.
 pub record Ended (s : Receiver) (question : ℕ) (before after : List ℕ) (r : Taken) : Type 0 where
   pub answer : r .answer ≡ question
-  pub state : stateOf (r .state) ≡ over (stateOf s)
+  pub state : Holds (over (stateOf s)) (r .state)
   pub zeros : after ≡ replicate (length before) 0
 
 -- What concluding comes to, for memory m and a shingle table that an accepted message leaves.
 pub record Concludes (R : Result) (m : Lent) (table after : List ℕ) (r : Taken) : Type 0 where
   pub answer : r .answer ≡ numberOf (R .answer)
-  pub state : stateOf (r .state) ≡ R .state
+  pub state : Holds (R .state) (r .state)
   pub refused : 0 < r .answer → r .answer < 2 ^ 32 → R .lent ≡ withOutput m after
   pub going : r .answer ≡ 0 → R .lent ≡ withShingles (withOutput m after) table
   pub handed : 2 ^ 32 ≤ r .answer → R .lent ≡ withShingles (withOutput m after) table

@@ -2,17 +2,15 @@
 use mathlib.Core.Bool.{Bool, true, false, _&&_, false≢true}
 use mathlib.Core.List.{List, _++_}
 use mathlib.Core.Path.{_≡_, refl, sym, ap, subst, _∙_}
-use Prim.Native.Nat.{ℕ, _+_, _-_, _%_, _^_, _≤_, _<_}
+use Prim.Native.Nat.{ℕ, _^_, _≤_, _<_}
 use native.Mathlib.Nat.{suc-ne-zero}
 use native.Mathlib.Omega.{arith}
 use native.Mathlib.Decide.{decLt}
-use borrow.Author.Tests.{eq-eqb, ne-eqb, lt-leb, le-leb, lt-ltb, ltb-true}
+use borrow.Author.Tests.{eq-eqb, ne-eqb, lt-leb, le-leb, lt-ltb, le-ltb}
 use lib.Dec.{leb, ltb}
-use lib.ListN.{length, drop, length-append, length-drop}
-use lib.Seq.{drop-at}
+use lib.ListN.{length, drop}
 use Rattle.tree.specs.declared.Settings.{Settings}
-use Rattle.tree.specs.Questions.{ask, refusal}
-use Rattle.shingle.proofs.PairOrder.{and-true}
+use Rattle.tree.specs.Questions.{ask, within, refusal}
 use Rattle.sketch.specs.Sums.{rowBytes}
 use Rattle.setup.specs.Questions.{tablesFit, lentRefusal}
 use Rattle.setup.specs.Tables.{SetUp}
@@ -24,28 +22,28 @@ use Rattle.protocol.specs.State.{initial}
 use Rattle.protocol.specs.Receiver.{Result, numberOf, unchanged, takeMessage}
 use Rattle.state.specs.declared.Receiver.{Receiver}
 use Rattle.state.specs.declared.Taken.{Taken}
-use Rattle.copying.specs.Copying.{pileOf}
-use Rattle.state.specs.Receivers.{phaseOf, idle, stateOf}
+use Rattle.state.specs.Receivers.{stateOf, receiverOf}
+use Rattle.state.proofs.Keeping.{starts}
 use Rattle.state_bytes.specs.Bytes.{stateIn, stateRows, Stores}
-use Rattle.taking.specs.Taking.{Takes}
-use Rattle.receiver.specs.Calls.{stateAfter, ReceiverSetUp, Asked}
-use Rattle.held.specs.Held.{decode, bytesAfter, HeldSetUp, HeldTakes}
+use Rattle.taking.specs.Taking.{unmoved, structAfter, Takes}
+use Rattle.receiver.specs.Calls.{stateAfter as stateMade, ReceiverSetUp, Asked}
+use Rattle.held.specs.Held.{decode, bytesAfter, HeldSetUp, stateAfter, HeldTakes}
+
+-- The two tests of `refuses`.
+pub tests-both : (k : ℕ) → 0 < k → ltb k 12 ≡ within 1 11 k
+tests-both k above = elim (decLt k 12) [
+  | yes low ↦ rw (lt-ltb k 12 low, le-leb 1 k above, le-leb k 11 (omega (arith, low)))
+  | no high ↦ rw (le-ltb k 12 (omega (arith, high)), le-leb 1 k above, lt-leb k 11 (omega (arith, high)))
+]
+
+pub tests-first : (k : ℕ) → k ≤ 0 → false ≡ within 1 11 k
+tests-first k none = rw (lt-leb 1 k (omega arith))
 
 -- A state of fewer than 2,144 bytes is refused by 1.
 short-refused : (state string nodes shingles cells message output : List ℕ) → length state < 2144
     → takeMessage (decode state) (lent string nodes shingles cells output) message ≡ unchanged 1 (decode state) (lent string nodes shingles cells output)
-unfolding takeMessage stateIn stateOf lentRefusal refusal ask
+unfolding takeMessage stateIn stateOf receiverOf initial lentRefusal refusal ask
 short-refused state string nodes shingles cells message output h = rw (lt-leb 2144 (length state) h) refl
-
--- A stored state is held, and the bytes after it are untouched.
-behind-kept : {before after : List ℕ} {s : Receiver} → Stores before after s → 2144 ≤ length before → length after ≡ length before
-    → drop 2144 after ≡ drop 2144 before
-behind-kept {before} {after} {s} stored long same =
-    let e = stored .bytes long in
-    ap (drop 2144) e ∙ drop-at (rowBytes (stateRows s)) (drop 2144 before) 2144 (rows-long (ap length e ∙ length-append (rowBytes (stateRows s)) (drop 2144 before)))
-  where
-    rows-long : length after ≡ length (rowBytes (stateRows s)) + length (drop 2144 before) → length (rowBytes (stateRows s)) ≡ 2144
-    rows-long e = omega (arith, e, length-drop 2144 before, same, long)
 
 -- What was loaded is the state that the bytes hold.
 pub asked-held : {s held : Receiver} {string nodes shingles cells before after : List ℕ} {r : ℕ} → s ≡ held
@@ -61,50 +59,45 @@ takes-held {string = string} {nodes = nodes} {shingles = shingles} {shingles′ 
 module _ {state string nodes shingles shingles′ cells message output output′ : List ℕ} {t : Taken}
     (took : Takes (stateIn state) string nodes shingles shingles′ cells message output output′ t) where
   -- A no at 1 to 11.
-  pub held-kept : (ltb 0 (t .answer) && ltb (t .answer) 12) ≡ true
-      → HeldTakes state state string nodes shingles shingles′ cells message output output′ (t .answer)
+  pub held-kept : within 1 11 (t .answer) ≡ true → HeldTakes state state string nodes shingles shingles′ cells message output output′ (t .answer)
+  unfolding stateAfter structAfter
   held-kept e =
-      let both = and-true (ltb 0 (t .answer)) _ e in
-      let above = ltb-true 0 _ (both .0) in
-      let small = ltb-true _ 12 (both .1) in
+      let R = takeMessage (decode state) (lent string nodes shingles cells output) message in
+      let is : unmoved R ≡ true = ap (within 1 11) (sym (took .gives .answer)) ∙ e in
+      let same : t .state ≡ stateIn state = took .gives .whole ∙ rw is refl in
       record {
         leaves = record {
           answer = took .gives .answer;
-          state-is = ap stateOf (sym (took .kept above small)) ∙ took .gives .state;
+          bytes-are = rw is refl;
+          state-is = ap stateOf (sym same) ∙ took .gives .state;
           memory = took .gives .memory;
         };
-        kept = λ h k. refl;
-        behind = refl;
       }
 
   -- Else the state after the call is stored; the bytes are long enough, since fewer are refused by 1.
-  pub held-stored : {state′ : List ℕ} → (ltb 0 (t .answer) && ltb (t .answer) 12) ≡ false → Stores state state′ (t .state) → length state′ ≡ length state
+  pub held-stored : {state′ : List ℕ} → within 1 11 (t .answer) ≡ false → Stores state state′ (t .state)
       → HeldTakes state state′ string nodes shingles shingles′ cells message output output′ (t .answer)
-  unfolding unchanged numberOf
-  held-stored {state′ = state′} e stored same =
-      let far : 0 < t .answer → t .answer < 12 → ⊥ = λ above small. false≢true (sym e ∙ rw (lt-ltb 0 (t .answer) above, lt-ltb (t .answer) 12 small) refl) in
+  unfolding unchanged numberOf stateAfter structAfter
+  held-stored e stored =
+      let R = takeMessage (decode state) (lent string nodes shingles cells output) message in
+      let is : unmoved R ≡ false = ap (within 1 11) (sym (took .gives .answer)) ∙ e in
+      let new : t .state ≡ receiverOf (R .state) = took .gives .whole ∙ rw is refl in
       elim (decLt (length state) 2144) [
         | yes short ↦
-            let no-take = short-refused state string nodes shingles cells message output short in
-            let one : t .answer ≡ 1 = took .gives .answer ∙ ap (λ (R : Result). numberOf (R .answer)) no-take in
-            absurd (far (omega (arith, one)) (omega (arith, one)))
+            let one : t .answer ≡ 1 =
+            took .gives .answer ∙ ap (λ (S : Result). numberOf (S .answer)) (short-refused state string nodes shingles cells message output short) in
+            absurd (false≢true (sym e ∙ ap (within 1 11) one))
         | no enough ↦
             let long : 2144 ≤ length state = omega (arith, enough) in
             record {
               leaves = record {
                 answer = took .gives .answer;
+                bytes-are = stored .bytes long ∙ (ap (λ (s : Receiver). rowBytes (stateRows s) ++ drop 2144 state) new ∙ rw is refl);
                 state-is = ap stateOf (stored .held long) ∙ took .gives .state;
                 memory = took .gives .memory;
               };
-              kept = λ above small. absurd (far above small);
-              behind = behind-kept stored long same;
             }
       ]
-
--- The state of a new session.
-starts : (σ : Settings) (session : ℕ) → stateOf (idle σ (session % 2 ^ 24) 0) ≡ initial σ session
-unfolding stateOf initial phaseOf pileOf
-starts σ session = refl
 
 module _ (σ : Settings) (session : ℕ) (string nodes shingles cells state : List ℕ) where
   abbrev room : Bool
@@ -147,10 +140,10 @@ module _ (σ : Settings) (session : ℕ) (string nodes shingles cells state : Li
 
     pub state-made : (state′ : List ℕ) → 2 ^ 32 ≤ t .answer → Stores state state′ (t .state)
         → HeldSetUp σ session string nodes nodes′ shingles shingles′ cells cells′ state state′ (t .answer)
-    unfolding bytesAfter stateAfter
+    unfolding bytesAfter stateMade
     state-made state′ high stored =
         let yes-is = yes-answer _ _ _ _ _ _ _ _ _ _ (made .tables) high in
-        let new : t .state ≡ idle σ (session % 2 ^ 24) 0 = made .state-is ∙ rw (eq-eqb _ 0 yes-is) refl in
+        let new : t .state ≡ receiverOf (initial σ session) = made .state-is ∙ rw (eq-eqb _ 0 yes-is) refl in
         record {
           tables = tables;
           state-is = stored .bytes long

@@ -1,7 +1,6 @@
 // The receiver's calls with its state held in lent bytes, as C calls them.
-ghost use mathlib.Core.Bool.{_&&_};
 ghost use mathlib.Core.Path.{_≡_};
-ghost use lib.Dec.{ltb};
+ghost use Rattle.tree.specs.Questions.{within};
 ghost use Rattle.state_bytes.specs.Bytes.{stateIn};
 ghost use Rattle.receiver.specs.Calls.{Asked};
 ghost use Rattle.held.specs.Held.{HeldSetUp, HeldTakes};
@@ -40,7 +39,7 @@ pub fn setup(
 
 // Whether an answer is a no at 1 to 11, which changes nothing.
 fn refuses(answer: u64) -> bool
-    ensures { λ r. ⌜ r ≡ (ltb 0 answer && ltb answer 12) ⌝ }
+    ensures { λ r. ⌜ r ≡ within 1 11 answer ⌝ }
 {
     if 0 < answer {
         return answer < 12;
@@ -49,7 +48,8 @@ fn refuses(answer: u64) -> bool
 }
 
 // Takes a message. Asked are 1 to 7, 9 to 11, and 12 to 19: the answer is the number of the first that fails, 0 while the session goes
-// on, or 2^32 and the length of the string that is handed over. A no at 1 to 11 leaves the state's bytes as they are.
+// on, or 2^32 and the length of the string that is handed over. A no at 1 to 11 leaves the state's bytes as they are; else each of them is
+// written.
 pub fn take(
     state: &mut [u8],
     string: &[u8],

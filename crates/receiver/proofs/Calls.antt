@@ -8,16 +8,17 @@ use Rattle.tree.specs.declared.Settings.{Settings}
 use Rattle.setup.specs.Tables.{SetUp}
 use Rattle.setup.proofs.Accepted.{yes-answer, no-answer}
 use Rattle.protocol.specs.Lent.{lent, refusedBy}
+use Rattle.protocol.specs.State.{initial}
 use Rattle.protocol.specs.Receiver.{writeQuery}
 use Rattle.state.specs.declared.Receiver.{Receiver}
-use Rattle.state.specs.Receivers.{stateOf, Starts}
+use Rattle.state.specs.Receivers.{stateOf, zeros, Holds}
 use Rattle.state.specs.Asking.{Queried}
 use Rattle.receiver.specs.Calls.{stateAfter, ReceiverSetUp, Asked}
 
 -- Setting up.
 module _ {σ : Settings} {session : ℕ} {string nodes nodes′ shingles shingles′ cells cells′ : List ℕ} {r : ℕ}
     (made : SetUp σ string true nodes nodes′ shingles shingles′ cells cells′ r) {state : Receiver} where
-  pub setup-no : r < 2 ^ 32 → Starts (record { window = 0; «fan_out» = 0; levels = 0; nominal = 0; width = 0 }) 0 state
+  pub setup-no : r < 2 ^ 32 → Holds zeros state
       → ReceiverSetUp σ session string nodes nodes′ shingles shingles′ cells cells′ (record { answer = r; state = state })
   unfolding stateAfter
   setup-no small starts =
@@ -26,7 +27,7 @@ module _ {σ : Settings} {session : ℕ} {string nodes nodes′ shingles shingle
         state-is = starts .whole ∙ rw (ne-eqb _ 0 (no-answer _ _ _ _ _ _ _ _ _ _ made small)) refl;
       }
 
-  pub setup-yes : 2 ^ 32 ≤ r → Starts σ session state → ReceiverSetUp σ session string nodes nodes′ shingles shingles′ cells cells′ (record { answer = r; state = state })
+  pub setup-yes : 2 ^ 32 ≤ r → Holds (initial σ session) state → ReceiverSetUp σ session string nodes nodes′ shingles shingles′ cells cells′ (record { answer = r; state = state })
   unfolding stateAfter
   setup-yes large starts =
       record {

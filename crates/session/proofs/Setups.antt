@@ -2,7 +2,7 @@
 use mathlib.Core.Bool.{true}
 use mathlib.Core.List.{List, []}
 use mathlib.Core.Path.{_≡_, refl, ap, subst, _∙_}
-use Prim.Native.Nat.{ℕ, _%_, _^_, _≤_, _<_}
+use Prim.Native.Nat.{ℕ, _^_, _≤_, _<_}
 use borrow.Author.Tests.{eq-eqb, ne-eqb}
 use Rattle.tree.specs.declared.Settings.{Settings}
 use Rattle.setup.specs.Questions.{setupAnswer}
@@ -10,9 +10,9 @@ use Rattle.setup.specs.Tables.{SetUp}
 use Rattle.setup.proofs.Accepted.{yes-answer, no-answer}
 use Rattle.protocol.specs.Lent.{Lent, lent}
 use Rattle.protocol.specs.State.{initial}
-use Rattle.copying.specs.Copying.{pileOf}
 use Rattle.state.specs.declared.Taken.{Taken}
-use Rattle.state.specs.Receivers.{phaseOf, idle, stateOf}
+use Rattle.state.specs.Receivers.{stateOf, receiverOf}
+use Rattle.state.proofs.Keeping.{starts}
 use Rattle.receiver.specs.Calls.{stateAfter, ReceiverSetUp}
 use Rattle.session.specs.Session.{standing, rounds, refusedAt, filled, Ending, endOf, sessionBetween}
 use Rattle.session.specs.Calls.{Ends, ExchangedAll, Ran}
@@ -37,12 +37,12 @@ module _ {σ : Settings} {string nodes nodes′ shingles shingles′ cells cells
   refused-none high = yes-answer _ _ _ _ _ _ _ _ _ _ made high
 
 -- The state of a new session.
-starts : {σ : Settings} {n : ℕ} {string nodes nodes′ shingles shingles′ cells cells′ : List ℕ} {t : Taken}
+new-state : {σ : Settings} {n : ℕ} {string nodes nodes′ shingles shingles′ cells cells′ : List ℕ} {t : Taken}
     → ReceiverSetUp σ n string nodes nodes′ shingles shingles′ cells cells′ t → 2 ^ 32 ≤ t .answer → stateOf (t .state) ≡ initial σ n
-unfolding stateAfter stateOf initial phaseOf pileOf
-starts {σ = σ} {n = n} {t = t} made high =
-    let new : t .state ≡ idle σ (n % 2 ^ 24) 0 = made .state-is ∙ rw (eq-eqb _ 0 (yes-answer _ _ _ _ _ _ _ _ _ _ (made .tables) high)) refl in
-    ap stateOf new
+unfolding stateAfter
+new-state {σ = σ} {n = n} {t = t} made high =
+    let new : t .state ≡ receiverOf (initial σ n) = made .state-is ∙ rw (eq-eqb _ 0 (yes-answer _ _ _ _ _ _ _ _ _ _ (made .tables) high)) refl in
+    ap stateOf new ∙ starts σ n
 
 ending-by : {end all : Ending} {ours : Lent} {buffer : List ℕ} {r : ℕ} → end ≡ all → Ends end ours buffer r → Ends all ours buffer r
 ending-by {ours = ours} {buffer = buffer} {r = r} e ends = subst (λ (x : Ending). Ends x ours buffer r) e ends
@@ -83,7 +83,7 @@ module _ {σ : Settings} {n : ℕ} {string nodes nodes′ shingles shingles′ c
         rw (
           eq-eqb _ 0 (refused-none sender [] yes-sender),
           eq-eqb _ 0 (refused-none (made .tables) output yes-receiver),
-          starts made yes-receiver,
+          new-state made yes-receiver,
           filled-is sender [],
           filled-is (made .tables) output,
         ) refl in

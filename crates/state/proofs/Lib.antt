@@ -2,3 +2,4 @@
 pub mod Nine
 pub mod Pushing
 pub mod Asking
+pub mod Keeping

@@ -12,7 +12,7 @@ use Rattle.protocol.specs.State.{Pending, pending}
 use Rattle.state.specs.Pushing.{placed, pushed, Pushes}
 
 -- A place at or above the top is no part of the pile.
-pile-above : (n i : ℕ) (places : List Waiting) (w : Waiting) → n ≤ i → pileOf n (set places i w) ≡ pileOf n places
+pub pile-above : (n i : ℕ) (places : List Waiting) (w : Waiting) → n ≤ i → pileOf n (set places i w) ≡ pileOf n places
 unfolding pileOf
 pile-above zero i places w h = refl
 pile-above (suc n) i places w h =

@@ -1,14 +1,14 @@
--- The state that a receiver's struct stands for.
+-- The state that a receiver's struct stands for, and the struct that a state is kept in.
 use mathlib.Core.Bool.{Bool, _&&_}
-use mathlib.Core.List.{List}
+use mathlib.Core.List.{List, [], _∷_}
 use mathlib.Core.Path.{_≡_}
-use Prim.Native.Nat.{ℕ, zero, suc, _%_, _^_}
+use Prim.Native.Nat.{ℕ, zero, suc}
 use lib.Dec.{leb}
-use lib.ListN.{length, replicate}
+use lib.ListN.{length, replicate, set}
 use Rattle.tree.specs.declared.Settings.{Settings}
 use Rattle.copying.specs.declared.Waiting.{Waiting}
 use Rattle.copying.specs.Copying.{pileOf}
-use Rattle.protocol.specs.State.{Phase, unopened, opened, ended, State, initial, going, over, live, shallow}
+use Rattle.protocol.specs.State.{Pending, Phase, unopened, opened, ended, State, initial, live, shallow}
 use Rattle.state.specs.declared.Receiver.{Receiver}
 
 -- The phase of a number: 0, 1, or any other.
@@ -41,31 +41,40 @@ abbrev pub idle : Settings → (session phase : ℕ) → Receiver
 idle σ n phase =
     record { settings = σ; session = n; phase = phase; size = 0; root = 0; built = 0; taken = 0; waiting = 0; pile = emptyPile }
 
--- What the start of a session promises.
-pub record Starts (σ : Settings) (n : ℕ) (r : Receiver) : Type 0 where
-  pub whole : r ≡ idle σ (n % 2 ^ 24) 0
-  pub state : stateOf r ≡ initial σ n
+-- The number of a phase.
+unfoldable pub phaseNumber : Phase → ℕ
+phaseNumber unopened = 0
+phaseNumber opened = 1
+phaseNumber ended = 2
 
--- What the end of a session promises.
-pub record Ends (s r : Receiver) : Type 0 where
-  pub whole : r ≡ idle (s .settings) (s .session) 2
-  pub state : stateOf r ≡ over (stateOf s)
+-- The 128 places of a pile: its bottom is in the first, and above its top all are zero entries. Nodes above the 128th have no place.
+unfoldable pub placesOf : List Pending → List Waiting
+placesOf [] = emptyPile
+placesOf (top ∷ rest) = set (placesOf rest) (length rest) (record { level = top .level; id = top .id })
 
--- What going on promises.
-pub record Goes (s : Receiver) (size root built taken waiting : ℕ) (places : List Waiting) (r : Receiver) : Type 0 where
-  pub whole : r
-      ≡ record {
-        settings = s .settings;
-        session = s .session;
-        phase = 1;
-        size = size;
-        root = root;
-        built = built;
-        taken = taken;
-        waiting = waiting;
-        pile = places;
-      }
-  pub state : stateOf r ≡ going (stateOf s) size root built taken (pileOf waiting places)
+-- The struct that a state is kept in: the same for equal states, to the last place.
+unfoldable pub receiverOf : State → Receiver
+receiverOf s =
+    record {
+      settings = s .settings;
+      session = s .session;
+      phase = phaseNumber (s .phase);
+      size = s .size;
+      root = s .root;
+      built = s .built;
+      taken = s .taken;
+      waiting = length (s .pile);
+      pile = placesOf (s .pile);
+    }
+
+-- The state of zeros, which stands where there is none. Question 1 refuses its window of 0.
+abbrev pub zeros : State
+zeros = initial (record { window = 0; «fan_out» = 0; levels = 0; nominal = 0; width = 0 }) 0
+
+-- What starting, going on and ending promise: a struct is the one that a state is kept in, and stands for that state.
+pub record Holds (s : State) (r : Receiver) : Type 0 where
+  pub whole : r ≡ receiverOf s
+  pub state : stateOf r ≡ s
 
 -- Question 9, of a state's numbers and places.
 unfoldable pub runs : (levels phase waiting : ℕ) → List Waiting → Bool

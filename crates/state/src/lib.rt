@@ -3,15 +3,16 @@ mod pile;
 mod question;
 
 ghost use mathlib.Core.Path.{_≡_};
-ghost use Rattle.protocol.specs.State.{running};
+ghost use Rattle.copying.specs.Copying.{pileOf};
+ghost use Rattle.protocol.specs.State.{initial, going, over, running};
 ghost use Rattle.state.specs.Asking.{Asks, Queried};
 ghost use Rattle.state.specs.Pushing.{Pushes};
-ghost use Rattle.state.specs.Receivers.{stateOf, idle, Starts, Ends, Goes};
+ghost use Rattle.state.specs.Receivers.{stateOf, idle, Holds};
 use copying::Waiting;
 use tree::Settings;
 
-// Phase 0: no opening taken yet; 1: an opening taken; any other: the session ended. The first `waiting` of the places are the pending
-// nodes, the last of them the top.
+// Phase 0: no opening taken yet; 1: an opening taken; any other: the session ended, which is written as 2. The first `waiting` of the
+// places are the pending nodes, the last of them the top.
 pub struct Receiver {
     pub settings: Settings,
     pub session: u64,
@@ -57,20 +58,21 @@ fn idle(settings: Settings, session: u64, phase: u64) -> Receiver
 
 // The state that an accepted setup makes.
 pub fn initial(settings: Settings, session: u64) -> Receiver
-    ensures { λ r. ⌜ Starts settings session r ⌝ }
+    ensures { λ r. ⌜ Holds (initial settings session) r ⌝ }
 {
     idle(settings, session % 16777216, 0)
 }
 
 // The state after the session's end.
 pub fn over(state: Receiver) -> Receiver
-    ensures { λ r. ⌜ Ends state r ⌝ }
+    ensures { λ r. ⌜ Holds (over (stateOf state)) r ⌝ }
 {
     let settings = state.settings;
     idle(settings, state.session, 2)
 }
 
-// The state in which an opening, or a node reply, leaves pending nodes.
+// The state in which an opening, or a node reply, leaves pending nodes. Places above the top are cleared, so that what was popped is not
+// kept.
 pub fn going(
     state: Receiver,
     size: u64,
@@ -80,9 +82,10 @@ pub fn going(
     waiting: usize,
     pile: [Waiting; 128],
 ) -> Receiver
-    ensures { λ r. ⌜ Goes state size root built taken waiting pile r ⌝ }
+    ensures { λ r. ⌜ Holds (going (stateOf state) size root built taken (pileOf waiting pile)) r ⌝ }
 {
     let settings = state.settings;
+    let cleared = pile::clear_above(pile, waiting);
     Receiver {
         settings,
         session: state.session,
@@ -92,7 +95,7 @@ pub fn going(
         built,
         taken,
         waiting,
-        pile,
+        pile: cleared,
     }
 }
 

@@ -1,8 +1,10 @@
-// Children pushed on the pile of pending nodes.
+// The places of the pile of pending nodes: children pushed, and the places above the top.
 ghost use mathlib.Core.Path.{_≡_};
 ghost use Prim.Native.Nat.{_+_, _≤_};
 ghost use lib.ListN.{take};
+ghost use Rattle.copying.specs.Copying.{pileOf};
 ghost use Rattle.state.specs.Pushing.{placed};
+ghost use Rattle.state.specs.Receivers.{placesOf};
 use copying::Waiting;
 
 // Writes the first `count` ids into the places from `waiting` on, the last of them first.
@@ -26,4 +28,17 @@ pub fn place(
         at += 1;
     }
     places
+}
+
+// Makes every place above the top a zero entry.
+pub fn clear_above(pile: [Waiting; 128], waiting: usize) -> [Waiting; 128]
+    ensures { λ r. ⌜ r ≡ placesOf (pileOf waiting pile) ⌝ }
+{
+    let mut cleared = pile;
+    let mut above = waiting;
+    while above < 128 {
+        cleared[above] = Waiting { level: 0, id: 0 };
+        above += 1;
+    }
+    cleared
 }

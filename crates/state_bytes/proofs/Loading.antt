@@ -11,7 +11,7 @@ use Rattle.tree.specs.declared.Settings.{Settings}
 use Rattle.copying.specs.declared.Waiting.{Waiting}
 use Rattle.rows.specs.Rows.{wordsOf}
 use Rattle.state.specs.declared.Receiver.{Receiver}
-use Rattle.state.specs.Receivers.{idle}
+use Rattle.state.specs.Receivers.{receiverOf, zeros}
 use Rattle.state_bytes.specs.Bytes.{settingsFrom, placeAt, placesFrom, stateFrom, stateIn}
 
 module _ (rows : List ℕ) where
@@ -54,8 +54,7 @@ module _ (rows : List ℕ) where
         ∙ (sym (append-nil (take k places)) ∙ (ap (λ (n : ℕ). take k places ++ placesFrom rows n k) (sym none-left) ∙ reading .all))
 
 -- Fewer bytes than a state has.
-pub held-none : (t : List ℕ) {r : Receiver} → length t < 2144
-    → r ≡ idle (record { window = 0; «fan_out» = 0; levels = 0; nominal = 0; width = 0 }) 0 0 → r ≡ stateIn t
+pub held-none : (t : List ℕ) {r : Receiver} → length t < 2144 → r ≡ receiverOf zeros → r ≡ stateIn t
 unfolding stateIn
 held-none t h e = e ∙ sym (rw (lt-leb 2144 (length t) h))
 

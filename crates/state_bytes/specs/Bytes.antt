@@ -10,7 +10,7 @@ use Rattle.copying.specs.declared.Waiting.{Waiting}
 use Rattle.rows.specs.Rows.{wordsOf}
 use Rattle.sketch.specs.Sums.{rowBytes}
 use Rattle.state.specs.declared.Receiver.{Receiver}
-use Rattle.state.specs.Receivers.{idle}
+use Rattle.state.specs.Receivers.{receiverOf, zeros}
 
 -- Window, fan-out, levels, nominal length and width, from the first five rows.
 unfoldable pub settingsFrom : List ℕ → Settings
@@ -41,11 +41,10 @@ stateFrom rows =
       pile = placesFrom rows 128 0;
     }
 
--- The state that bytes hold. Fewer than 2,144 hold the state of zeros, whose window of 0 question 1 refuses.
+-- The state that bytes hold. Fewer than 2,144 hold the state of zeros.
 unfoldable pub stateIn : List ℕ → Receiver
 stateIn bytes =
-    cond (leb 2144 (length bytes)) (stateFrom (wordsOf bytes))
-    (idle (record { window = 0; «fan_out» = 0; levels = 0; nominal = 0; width = 0 }) 0 0)
+    cond (leb 2144 (length bytes)) (stateFrom (wordsOf bytes)) (receiverOf zeros)
 
 -- The rows of a state.
 unfoldable pub placeRows : List Waiting → List ℕ

@@ -1,4 +1,5 @@
 -- Laws of taking a message.
+pub mod Giving
 pub mod Opening
 pub mod Node
 pub mod Composition

@@ -22,10 +22,12 @@ use Rattle.copying.specs.Copying.{pileOf, settledFrom}
 use Rattle.state.specs.declared.Receiver.{Receiver}
 use Rattle.state.specs.declared.Taken.{Taken}
 use Rattle.state.specs.Receivers.{stateOf}
+use Rattle.state.proofs.Keeping.{holds-by}
 use Rattle.heard.specs.declared.Said.{Said}
 use Rattle.heard.specs.Heard.{given, messageIn}
 use Rattle.advance.specs.Advance.{Ended, Concludes, Advanced}
 use Rattle.taking.specs.Steps.{earlyRefusal, NodeSaid, ContentSaid, NodeTaken}
+use Rattle.taking.proofs.Giving.{past-gives}
 
 -- A result that ends the session.
 pub ending : {s : Receiver} {string nodes shingles message output output′ : List ℕ} {t : Taken} (k : ℕ) → 12 ≤ k → Ended s k output output′ t
@@ -35,13 +37,10 @@ pub ending : {s : Receiver} {string nodes shingles message output output′ : Li
 unfolding ends numberOf
 ending {string = string} {nodes = nodes} {shingles = shingles} k far ended e =
     record {
-      apart = λ above. subst (λ (n : ℕ). 12 ≤ n) (sym (ended .answer)) far;
       gives = λ cells.
-          record {
-            answer = ended .answer ∙ sym (ap (λ (R : Result). numberOf (R .answer)) (e cells));
-            state = ended .state ∙ sym (ap (λ (R : Result). R .state) (e cells));
-            memory = ap (λ (R : Result). R .lent) (e cells) ∙ ap (λ (x : List ℕ). lent string nodes shingles cells x) (sym (ended .zeros));
-          };
+          past-gives (ended .answer ∙ sym (ap (λ (R : Result). numberOf (R .answer)) (e cells))) (λ above. subst (λ (n : ℕ). 12 ≤ n) (sym (ended .answer)) far)
+          (holds-by (ap (λ (R : Result). R .state) (e cells)) (ended .state))
+          (ap (λ (R : Result). R .lent) (e cells) ∙ ap (λ (x : List ℕ). lent string nodes shingles cells x) (sym (ended .zeros)));
     }
 
 pub refused-node : (st : State) (m : Lent) (k : ℕ) (bytes : List ℕ) (pile : List Pending) → (k ≡ 0 → ⊥) → takeNode st m k bytes pile ≡ ends k st m
@@ -156,11 +155,10 @@ pub node-advanced : {s : Receiver} {string nodes shingles message output mid out
     → NodeTaken s string nodes shingles message output output′ t
 node-advanced {s = s} {string = string} {nodes = nodes} {shingles = shingles} {message = message} {output = output} {output′ = output′} {t = t} on behind long e =
     record {
-      apart = λ above. let far = on .apart above in omega (arith, far);
       gives = λ cells.
           let m : Lent = lent string nodes shingles cells output in
           let c = subst (λ (R : Result). Concludes R m shingles output′ t) (sym (e cells)) (on .gives m shingles behind long) in
-          record { answer = c .answer; state = c .state; memory = after cells c };
+          past-gives (c .answer) (λ above. let far = on .apart above in omega (arith, far)) (c .state) (after cells c);
     }
   where
     after : (cells : List ℕ) → Concludes (act (stateOf s) (lent string nodes shingles cells output) (messageIn message)) (lent string nodes shingles cells output) shingles output′ t

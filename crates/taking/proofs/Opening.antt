@@ -20,23 +20,26 @@ use Rattle.protocol.specs.Nodes.{look}
 use Rattle.protocol.specs.State.{pending}
 use Rattle.protocol.specs.Receiver.{Result, refused, numberOf, ends, settle, conclude, peeledOf, openingRefusal, takeOpening, act}
 use Rattle.copying.specs.declared.Waiting.{Waiting}
-use Rattle.copying.specs.Copying.{settledFrom}
+use Rattle.copying.specs.Copying.{pileOf, settledFrom}
 use Rattle.announced.specs.Judging.{Judged}
 use Rattle.announced.proofs.Received.{Heard, heard, refusal-is, table-is, length-fits, opening-refused}
 use Rattle.state.specs.declared.Receiver.{Receiver}
 use Rattle.state.specs.declared.Taken.{Taken}
-use Rattle.state.specs.Receivers.{stateOf}
+use Rattle.state.specs.Receivers.{stateOf, placesOf}
+use Rattle.state.proofs.Keeping.{pile-placed, holds-by}
 use Rattle.heard.specs.declared.Announced.{Announced}
 use Rattle.heard.specs.Heard.{given, messageIn}
 use Rattle.advance.specs.Advance.{Ended, Concludes, Advanced}
-use Rattle.taking.specs.Steps.{Rooted, OpeningSaid, OpeningTaken}
+use Rattle.taking.specs.Steps.{OpeningSaid, OpeningTaken}
+use Rattle.taking.proofs.Giving.{past-gives}
 
 -- The root alone is what copying starts with.
-root-settled : (string nodes : List ℕ) (size root : ℕ) (output : List ℕ) (places : List Waiting) → size ≤ length output → Rooted root places
+root-settled : (string nodes : List ℕ) (size root : ℕ) (output : List ℕ) (places : List Waiting) → size ≤ length output
+    → places ≡ placesOf (pending 0 root ∷ [])
     → settledFrom string nodes size output 0 1 places ≡ settle (look string nodes) size [] (pending 0 root ∷ [])
 unfolding settledFrom
 root-settled string nodes size root output places room first =
-    rw (le-leb size (length output) room, le-leb 0 size (omega arith)) (ap (settle (look string nodes) size []) (first .pile))
+    rw (le-leb size (length output) room, le-leb 0 size (omega arith)) (ap (settle (look string nodes) size []) (ap (pileOf 1) first ∙ pile-placed (pending 0 root ∷ []) (omega arith)))
 
 ask-apart : (t : Bool) (k n x : ℕ) → k ≤ n → (0 < x → k ≤ x) → 0 < ask t n x → k ≤ ask t n x
 unfolding ask
@@ -80,16 +83,14 @@ module _ {s : Receiver} {a : Announced} {string nodes shingles cells message out
   opening-no {t = t} fails ended =
       let e : act (stateOf s) m (messageIn message) ≡ ends r (stateOf s) m = act-is ∙ opening-refused what-is-heard j fails in
       record {
-        apart = λ above. subst (λ (k : ℕ). 12 ≤ k) (sym (ended .answer)) (refusal-apart (omega (arith, fails)));
-        gives = record {
-          answer = ended .answer ∙ sym (ap (λ (R : Result). numberOf (R .answer)) e);
-          state = ended .state ∙ sym (ap (λ (R : Result). R .state) e);
-          memory = ap (λ (R : Result). R .lent) e ∙ ap (λ (x : List ℕ). lent string nodes shingles cells x) (sym (ended .zeros));
-        };
+        gives = past-gives (ended .answer ∙ sym (ap (λ (R : Result). numberOf (R .answer)) e))
+            (λ above. subst (λ (k : ℕ). 12 ≤ k) (sym (ended .answer)) (refusal-apart (omega (arith, fails))))
+            (holds-by (ap (λ (R : Result). R .state) e) (ended .state))
+            (ap (λ (R : Result). R .lent) e ∙ ap (λ (x : List ℕ). lent string nodes shingles cells x) (sym (ended .zeros)));
       }
 
   -- The opening is accepted, and copying decides.
-  module _ (z : r ≡ 0) {places : List Waiting} (first : Rooted (a .root) places) {output′ : List ℕ} {t : Taken}
+  module _ (z : r ≡ 0) {places : List Waiting} (first : places ≡ placesOf (pending 0 (a .root) ∷ [])) {output′ : List ℕ} {t : Taken}
       (on : Advanced s (a .length) (a .root) 0 string nodes output output′ 0 1 places t) where
     abbrev table : List ℕ
     table = listTable (length shingles) (newList (shinglesIn shingles) (peeledOf (stateOf s .settings) m values .taken))
@@ -109,10 +110,7 @@ module _ {s : Receiver} {a : Announced} {string nodes shingles cells message out
     -- 18 or 19 refuses: the shingle table is as it was.
     pub opening-stopped : 0 < t .answer → t .answer < 2 ^ 32 → OpeningTaken s string nodes shingles shingles cells message output output′ t
     opening-stopped above small =
-        record {
-          apart = apart;
-          gives = record { answer = concluded .answer; state = concluded .state; memory = concluded .refused above small };
-        }
+        record { gives = past-gives (concluded .answer) apart (concluded .state) (concluded .refused above small) }
 
     -- Else the new list is written.
     pub opening-yes : {shingles′ : List ℕ} {answer : ℕ} → (t .answer ≡ 18 → ⊥) → (t .answer ≡ 19 → ⊥) → Renewed new gone shingles shingles′ answer
@@ -120,12 +118,7 @@ module _ {s : Receiver} {a : Announced} {string nodes shingles cells message out
     opening-yes {shingles′ = shingles′} one other written =
         let is : shingles′ ≡ table = table-is what-is-heard j z written in
         record {
-          apart = apart;
-          gives = record {
-            answer = concluded .answer;
-            state = concluded .state;
-            memory = kept ∙ ap (λ (x : List ℕ). lent string nodes x cells output′) (sym is);
-          };
+          gives = past-gives (concluded .answer) apart (concluded .state) (kept ∙ ap (λ (x : List ℕ). lent string nodes x cells output′) (sym is));
         }
       where
         kept : act (stateOf s) m (messageIn message) .lent ≡ lent string nodes table cells output′

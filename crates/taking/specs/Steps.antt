@@ -1,15 +1,12 @@
 -- What the steps of taking a message promise each other. No public contract cites these.
 use mathlib.Core.Bool.{not, _&&_}
-use mathlib.Core.List.{List, [], _∷_}
+use mathlib.Core.List.{List}
 use mathlib.Core.Path.{_≡_}
 use Prim.Native.Nat.{ℕ, _≤_, _<_}
 use lib.Dec.{leb, ltb, eqb}
 use lib.ListN.{length}
 use Rattle.tree.specs.Questions.{ask}
-use Rattle.copying.specs.declared.Waiting.{Waiting}
-use Rattle.copying.specs.Copying.{pileOf}
 use Rattle.protocol.specs.Lent.{lent, refusedBy}
-use Rattle.protocol.specs.State.{pending}
 use Rattle.protocol.specs.Receiver.{act}
 use Rattle.state.specs.declared.Receiver.{Receiver}
 use Rattle.state.specs.declared.Taken.{Taken}
@@ -19,18 +16,13 @@ use Rattle.heard.specs.declared.Announced.{Announced}
 use Rattle.heard.specs.Heard.{messageIn, NodeReply, OpeningReply}
 use Rattle.taking.specs.Taking.{Gives}
 
--- A pile whose only node is the root.
-pub record Rooted (root : ℕ) (places : List Waiting) : Type 0 where
-  pub pile : pileOf 1 places ≡ pending 0 root ∷ []
-
 -- What taking an opening knows: 1 to 7 are passed, and the message is that opening.
 pub record OpeningSaid (s : Receiver) (a : Announced) (string nodes shingles cells message output : List ℕ) : Type 0 where
   pub seven : refusedBy (s .settings) (lent string nodes shingles cells output) ≡ 0
   pub heard : OpeningReply message a
 
 pub record OpeningTaken (s : Receiver) (string nodes shingles shingles′ cells message output output′ : List ℕ) (r : Taken) : Type 0 where
-  pub apart : 0 < r .answer → 12 ≤ r .answer
-  pub gives : Gives (act (stateOf s) (lent string nodes shingles cells output) (messageIn message)) string nodes shingles′ cells output′ r
+  pub gives : Gives s (act (stateOf s) (lent string nodes shingles cells output) (messageIn message)) string nodes shingles′ cells output′ r
 
 -- 0, or the first of these that refuses a node reply before its content is looked at: 13, 15, 16.
 unfoldable pub earlyRefusal : (size room taken kind : ℕ) → ℕ
@@ -55,5 +47,5 @@ pub record ContentSaid (s : Receiver) (m : Said) (message output : List ℕ) : T
   pub few-taken : s .taken < 4096
 
 pub record NodeTaken (s : Receiver) (string nodes shingles message output output′ : List ℕ) (r : Taken) : Type 0 where
-  pub apart : 0 < r .answer → 12 ≤ r .answer
-  pub gives : (cells : List ℕ) → Gives (act (stateOf s) (lent string nodes shingles cells output) (messageIn message)) string nodes shingles cells output′ r
+  pub gives : (cells : List ℕ)
+      → Gives s (act (stateOf s) (lent string nodes shingles cells output) (messageIn message)) string nodes shingles cells output′ r

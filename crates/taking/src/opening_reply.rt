@@ -1,5 +1,9 @@
 // Taking an opening: questions 12 to 14, then the root is the pending node.
-ghost use Rattle.taking.specs.Steps.{Rooted, OpeningSaid, OpeningTaken};
+ghost use mathlib.Core.List.{[], _∷_};
+ghost use mathlib.Core.Path.{_≡_};
+ghost use Rattle.protocol.specs.State.{pending};
+ghost use Rattle.state.specs.Receivers.{placesOf};
+ghost use Rattle.taking.specs.Steps.{OpeningSaid, OpeningTaken};
 use advance::advance;
 use advance::end;
 use copying::Waiting;
@@ -9,7 +13,7 @@ use state::Taken;
 
 // A pile with the root alone.
 fn rooted(root: u64) -> [Waiting; 128]
-    ensures { λ r. ⌜ Rooted root r ⌝ }
+    ensures { λ r. ⌜ r ≡ placesOf (pending 0 root ∷ []) ⌝ }
 {
     let none = Waiting { level: 0, id: 0 };
     let mut pile = [none; 128];

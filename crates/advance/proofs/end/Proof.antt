@@ -15,7 +15,7 @@ same-length : tie.Need-same-length
 same-length c = search needs
 
 returns : tie.Need-returns
-returns c = record { answer = refl; state = c .over .ensures .state; zeros = c .before .before .before .clear .ensures ∙ cleared-all _ }
+returns c = record { answer = refl; state = c .over .ensures; zeros = c .before .before .before .clear .ensures ∙ cleared-all _ }
 
 pub end-spec : {M : Type 1} → statement M
 end-spec = tie.close (tie.spec clear-requires over-requires same-length returns)

@@ -45,7 +45,7 @@ returns-2 c =
     let stored = c .before .before in
     let taken = stored .before .before .before .before .before .before .before .before in
     held-stored (takes-held (taken .before .before .before .load .ensures) (taken .take .ensures)) (sym (stored .before .before .before .refuses .ensures) ∙ stored .before .before .if1 .left)
-    (stored .store .ensures) (search needs)
+    (stored .store .ensures)
 
 pub take-spec : {M : Type 1} → statement M
 take-spec =

@@ -3,7 +3,7 @@ use mathlib.Core.Path.{ap}
 use borrow.Author.Needs.{needs}
 use Rattle.copying.specs.Copying.{pileOf}
 use Rattle.protocol.specs.State.{initial}
-use Rattle.state.specs.Receivers.{phaseOf, stateOf}
+use Rattle.state.specs.Receivers.{phaseOf, stateOf, phaseNumber, placesOf, receiverOf}
 use Rattle.state.proofs.initial.Statement.{statement}
 use Rattle.state.proofs.initial.Tie as tie
 
@@ -11,7 +11,7 @@ idle-requires : tie.Need-idle-requires
 idle-requires c κs = search needs
 
 returns : tie.Need-returns
-unfolding stateOf phaseOf pileOf initial
+unfolding stateOf phaseOf phaseNumber pileOf placesOf receiverOf initial
 returns c = record { whole = c .idle .ensures; state = ap stateOf (c .idle .ensures) }
 
 pub initial-spec : {M : Type 1} → statement M
