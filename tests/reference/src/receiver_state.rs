@@ -82,12 +82,6 @@ pub fn write(state: &Receiver, bytes: &mut [u8]) {
     }
 }
 
-/// Where the places begin that no node of this state has. What stands there is free while a session
-/// goes on.
-pub fn free_places(state: &Receiver) -> usize {
-    8 * (HEADER_ROWS + 2 * state.pile.len())
-}
-
 /// An ended session: its settings and its number, and nothing else.
 pub fn ended(state: &Receiver) -> Receiver {
     Receiver {

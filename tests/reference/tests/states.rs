@@ -5,7 +5,7 @@ use reference::lent::Lent;
 use reference::message::{encode, Body, Message};
 use reference::rcds::{rcds_query, rcds_receiver_setup, rcds_take, ACCEPTED};
 use reference::receiver::{running, Pending, Receiver, Stage};
-use reference::receiver_state::{ended, free_places, read, write, STATE_BYTES};
+use reference::receiver_state::{ended, read, write, HEADER_ROWS, STATE_BYTES};
 use reference::reply::reply;
 use reference::settings::Settings;
 
@@ -124,8 +124,8 @@ fn what_is_written_is_read_again() {
             let mut bytes = vec![170; STATE_BYTES];
             write(&state, &mut bytes);
             assert_eq!(read(&bytes), state);
-            assert_eq!(free_places(&state), 96 + 16 * count as usize);
-            assert!(bytes[free_places(&state)..].iter().all(|&byte| byte == 0));
+            let unused = 8 * HEADER_ROWS + 16 * count as usize;
+            assert!(bytes[unused..].iter().all(|&byte| byte == 0));
         }
     }
 }

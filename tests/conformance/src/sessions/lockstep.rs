@@ -271,8 +271,7 @@ impl<'a> Lockstep<'a> {
         }))
     }
 
-    /// The receiver takes a message. While the session goes on, the places of the pile that no node
-    /// has are free: the reference takes over what the library left there.
+    /// The receiver takes a message.
     pub fn take(&mut self, message: &[u8]) -> Outcome<u64> {
         let mut lent = piece("message", message, &mut self.random);
         self.keep_rows();
@@ -302,11 +301,6 @@ impl<'a> Lockstep<'a> {
         });
         let (state, memory) = (&mut end.state_bytes, &mut end.memory);
         let expected = rcds::rcds_take(state, memory, message, &mut self.output_bytes);
-        if expected == 0 {
-            let free = receiver_state::free_places(&receiver_state::read(state));
-            let places = free..receiver_state::STATE_BYTES;
-            state[places.clone()].copy_from_slice(&end.state.bytes()[places]);
-        }
         let rest = output.expect(&self.output_bytes);
         let rest = rest
             .and_then(|()| lent.expect_unchanged())

@@ -127,7 +127,15 @@ fn refuse(
 
 /// What an accepted message leaves.
 fn leave(fault: u8, next: Next, state: &mut [u8], lent: &mut Lent, output: &mut [u8]) -> u64 {
-    let Next { rows, added, list } = next;
+    let Next {
+        mut rows,
+        added,
+        list,
+    } = next;
+    if fault != POPPED_PLACES_KEPT {
+        let above = PLACES + 2 * rows[WAITING] as usize;
+        rows[above.min(ROWS)..].fill(0);
+    }
     let (size, built) = (rows[SIZE], rows[BUILT] as usize);
     let from = (built - added.len()).min(output.len());
     let fits = added.len().min(output.len() - from);
