@@ -335,8 +335,7 @@ uint64_t rcds_trail_order(const uint8_t *pairs, size_t pairs_len,
  * levels, lengths and trail number can be used is asked by the end that takes
  * it.
  *
- * The call ends for all bytes. How long it takes was measured and is not
- * proved: less than one plain FNV-1a pass over a long message of type 3 to 5.
+ * The call ends for all bytes. How long it takes is not proved.
  */
 uint64_t rcds_message_type(const uint8_t *message, size_t message_len);
 
@@ -492,9 +491,9 @@ uint64_t rcds_query(const uint8_t *state, size_t state_len,
  * Asks 1 to 7, 9, 10, 11, then 12 to 19, in this order: 12 and 14 of an opening,
  * 15 to 17 of a node reply, the others of both.
  *
- * Accepted with answer 0: the session goes on, and the query is a new one. What
- * is built by now stands at the start of output. The other bytes of output are
- * unchanged.
+ * Accepted with answer 0: the session goes on, and the query is a new one. The
+ * bytes that the call built stand in output after those built before. The other
+ * bytes of output are unchanged.
  *
  * Accepted with an answer from 2^32 on: the sender's string is handed over. It
  * stands at the start of output, RCDS_COUNT of the answer is its length, which

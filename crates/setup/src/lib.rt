@@ -13,7 +13,7 @@ pub fn question(settings: Settings, size: usize, nodes: usize, shingles: usize, 
     if refused != 0 {
         return refused;
     }
-    if nodes < 65536 {
+    if !tree::has_room(nodes) {
         return 7;
     }
     if shingles < 98304 {

@@ -70,19 +70,22 @@ module _ (levels tail tag : ℕ) (s : Shingle) where
   unfolding fits
   level-high a h = rw (lt-ltb tail 4294967296 a, lt-leb (s .level) levels h)
 
-  pub count-low : tail < 4294967296 → s .level ≤ levels → s .count < 1 → false ≡ fits levels tail tag s
-  unfolding fits
-  count-low a b h = rw (lt-ltb tail 4294967296 a, le-leb (s .level) levels b, lt-leb 1 (s .count) h)
+  -- The last three tests, by whether the count may be.
+  counted : (low high : Bool) (may : Bool) → (low && high) ≡ may → (t : Bool) → (may && t) ≡ (low && (high && t))
+  counted true high may e t = ap (λ (b : Bool). b && t) (sym e)
+  counted false high may e t = ap (λ (b : Bool). b && t) (sym e)
 
-  pub count-high : tail < 4294967296 → s .level ≤ levels → 1 ≤ s .count → 4096 < s .count → false ≡ fits levels tail tag s
+  by-count : (may : Bool) → tail < 4294967296 → s .level ≤ levels → (leb 1 (s .count) && leb (s .count) 4096) ≡ may
+      → (may && eqb tag (tagOf 3 s)) ≡ fits levels tail tag s
   unfolding fits
-  count-high a b c h = rw (lt-ltb tail 4294967296 a, le-leb (s .level) levels b, le-leb 1 (s .count) c, lt-leb (s .count) 4096 h)
+  by-count may a b e = rw (lt-ltb tail 4294967296 a, le-leb (s .level) levels b) (counted (leb 1 (s .count)) (leb (s .count) 4096) may e (eqb tag (tagOf 3 s)))
 
-  pub tag-decides : (hash : ℕ) → tail < 4294967296 → s .level ≤ levels → 1 ≤ s .count → s .count ≤ 4096 → hash ≡ tagOf 3 s
+  pub count-off : tail < 4294967296 → s .level ≤ levels → (leb 1 (s .count) && leb (s .count) 4096) ≡ false → false ≡ fits levels tail tag s
+  count-off a b e = by-count false a b e
+
+  pub tag-decides : (hash : ℕ) → tail < 4294967296 → s .level ≤ levels → (leb 1 (s .count) && leb (s .count) 4096) ≡ true → hash ≡ tagOf 3 s
       → eqb tag hash ≡ fits levels tail tag s
-  unfolding fits
-  tag-decides hash a b c d e =
-      rw (lt-ltb tail 4294967296 a, le-leb (s .level) levels b, le-leb 1 (s .count) c, le-leb (s .count) 4096 d) (ap (eqb tag) e)
+  tag-decides hash a b c e = ap (eqb tag) e ∙ by-count true a b c
 
   pub fits-count : fits levels tail tag s ≡ true → 1 ≤ s .count
   unfolding fits

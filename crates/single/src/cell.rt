@@ -1,8 +1,8 @@
 // A cell of a cell table: the shingle that it holds if it is single, and whether it is.
-ghost use mathlib.Core.Bool.{_||_};
+ghost use mathlib.Core.Bool.{_&&_, _||_};
 ghost use mathlib.Core.Path.{_≡_};
 ghost use Prim.Native.Nat.{_*_, _≤_, _<_};
-ghost use lib.Dec.{eqb};
+ghost use lib.Dec.{eqb, leb};
 ghost use lib.ListN.{getD};
 ghost use Rattle.rows.specs.Rows.{wordsOf};
 ghost use Rattle.sketch.specs.Opening as opening;
@@ -57,6 +57,16 @@ pub fn shingle_in(cells: &[u8], i: usize) -> Shingle
     }
 }
 
+// Whether a shingle may have this count.
+fn is_count(count: u64) -> bool
+    ensures { λ r. ⌜ r ≡ (leb 1 count && leb count 4096) ⌝ }
+{
+    if count < 1 {
+        return false;
+    }
+    count <= 4096
+}
+
 // Whether the tail, its level and count, and F(3) are those of a shingle.
 fn fits(levels: u64, tail: u64, check: u64, s: Shingle) -> bool
     ensures { λ r. ⌜ r ≡ opening.fits levels tail check s ⌝ }
@@ -67,10 +77,7 @@ fn fits(levels: u64, tail: u64, check: u64, s: Shingle) -> bool
     if s.level > levels {
         return false;
     }
-    if s.count < 1 {
-        return false;
-    }
-    if s.count > 4096 {
+    if !is_count(s.count) {
         return false;
     }
     let tag = sketch::tag(3, s);

@@ -5,6 +5,7 @@ mod level;
 mod limits;
 
 ghost use mathlib.Core.Path.{_≡_};
+ghost use lib.Dec.{leb};
 ghost use Rattle.tree.specs.Questions.{refusal};
 ghost use Rattle.tree.specs.Table.{Tabled};
 
@@ -29,6 +30,13 @@ pub fn question(settings: Settings, size: usize) -> u64
     limits::size_question(least, settings.nominal, settings.width, size)
 }
 
+// Whether a node table of so many bytes has room for 4,096 nodes.
+pub fn has_room(nodes: usize) -> bool
+    ensures { λ r. ⌜ r ≡ leb 65536 nodes ⌝ }
+{
+    65536 <= nodes
+}
+
 // Cuts a string into its tree of blocks and writes the tree to the node table. Asked are 1 to 6, 7 of the node table, and 8:
 // the answer is the number of the first that fails, or 2^32 and the number of nodes. A no at 1 to 7 leaves the table as it
 // is, at 8 the table is all zero, and after a yes it is zero past the last node.
@@ -39,7 +47,7 @@ pub fn cut_string(settings: Settings, string: &[u8], nodes: &mut [u8]) -> u64
     if refused != 0 {
         return refused;
     }
-    if nodes.len() < 65536 {
+    if !has_room(nodes.len()) {
         return 7;
     }
     let used = cut::cut_node(

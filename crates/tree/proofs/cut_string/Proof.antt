@@ -4,6 +4,7 @@ use mathlib.Core.Path.{_≡_, refl, sym, _∙_}
 use Prim.Native.Nat.{ℕ, _+_, _^_, _≤_, _<_}
 use native.Mathlib.Omega.{arith}
 use borrow.Author.Needs.{needs}
+use borrow.Author.Tests.{leb-true, leb-false, not-true, not-false}
 use lib.ListN.{length, take, drop}
 use lib.Seq.{length-take-le, length-front}
 use Rattle.tree.specs.Questions.{refusal}
@@ -17,6 +18,9 @@ use Rattle.tree.proofs.cut_string.Tie as tie
 plus-fits : (used : ℕ) → used ≤ 4096 → 4294967296 + used < 2 ^ 64
 plus-fits used h = omega arith
 
+has-room-requires : tie.Need-has-room-requires
+has-room-requires c κs = search needs
+
 question-requires : tie.Need-question-requires
 question-requires c κs = search needs
 
@@ -28,37 +32,38 @@ passed : (c : tie.Else1) → let a = c .before .before .before .before .args in 
 passed c = sym (c .before .question .ensures) ∙ c .if1 .left
 
 returns-2 : tie.Need-returns-2
-returns-2 c = refused-room _ _ _ (passed (c .before)) (c .if2 .taken)
+returns-2 c =
+    refused-room _ _ _ (passed (c .before .before)) (leb-false 65536 _ (sym (c .before .has-room .ensures) ∙ not-true _ (c .if2 .taken)))
 
 -- The table has the 65,536 bytes that are lent.
-room : (c : tie.Else2) → 65536 ≤ length (c .before .before .before .before .before .args .nodes .now)
-room c = c .if2 .left
+room : (c : tie.Else2) → 65536 ≤ length (c .before .before .before .before .before .before .args .nodes .now)
+room c = leb-true 65536 _ (sym (c .before .has-room .ensures) ∙ not-false _ (c .if2 .left))
 
-lent : (c : tie.Else2) → length (take 65536 (c .before .before .before .before .before .args .nodes .now)) ≡ 65536
-lent c = length-take-le 65536 (c .before .before .before .before .before .args .nodes .now) (room c)
+lent : (c : tie.Else2) → length (take 65536 (c .before .before .before .before .before .before .args .nodes .now)) ≡ 65536
+lent c = length-take-le 65536 (c .before .before .before .before .before .before .args .nodes .now) (room c)
 
 slice-relend-prefix-cut-node : tie.Need-slice-relend-prefix-cut-node
-slice-relend-prefix-cut-node c = search needs
+slice-relend-prefix-cut-node c = room c
 
 slice-aggregate-cut-node : tie.Need-slice-aggregate-cut-node
 slice-aggregate-cut-node c = sym (lent (c .before))
 
 cut-node-requires : tie.Need-cut-node-requires
-cut-node-requires c κs = first-cutting _ _ _ (passed (c .before .before)) (lent (c .before))
+cut-node-requires c κs = first-cutting _ _ _ (passed (c .before .before .before)) (lent (c .before))
 
 -- They came back with the tree written to them, as many as they were, so that the table is as long as it was.
-wrote : (c : tie.After-cut-node) → let a = c .before .before .before .before .before .before .before .args in
+wrote : (c : tie.After-cut-node) → let a = c .before .before .before .before .before .before .before .before .args in
     Wrote (take 65536 (a .nodes .now)) (c .cut-node .last .1 .1 .1 .1 .1 .0) 0 (treeOf (a .settings) (a .settings .levels) 0 0 (a .string .now)) (c .cut-node .result)
 wrote c = c .cut-node .ensures
 
-kept : (c : tie.After-cut-node) → let a = c .before .before .before .before .before .before .before .args in
+kept : (c : tie.After-cut-node) → let a = c .before .before .before .before .before .before .before .before .args in
     length (c .cut-node .last .1 .1 .1 .1 .1 .0) ≡ length (take 65536 (a .nodes .now))
 kept c = c .cut-node .kept .1 .1 .1 .1 .1 .0
 
-whole : (c : tie.After-cut-node) → let a = c .before .before .before .before .before .before .before .args in
+whole : (c : tie.After-cut-node) → let a = c .before .before .before .before .before .before .before .before .args in
     length (c .cut-node .last .1 .1 .1 .1 .1 .0 ++ drop 65536 (a .nodes .now)) ≡ length (a .nodes .now)
 whole c =
-    length-front (c .before .before .before .before .before .before .before .args .nodes .now) (c .cut-node .last .1 .1 .1 .1 .1 .0) 65536 (kept c)
+    length-front (c .before .before .before .before .before .before .before .before .args .nodes .now) (c .cut-node .last .1 .1 .1 .1 .1 .0) 65536 (kept c)
 
 clear-requires : tie.Need-clear-requires
 clear-requires c κs = search needs
@@ -69,8 +74,8 @@ same-length c = c .before .before .clear .kept .0 ∙ whole (c .before .before .
 returns-3 : tie.Need-returns-3
 returns-3 c =
     let cut = c .before .before .before .before .before .before .before in
-    let a = cut .before .before .before .before .before .before .before .args in
-    refused-count (a .settings) (a .string .now) (a .nodes .now) (passed (cut .before .before .before)) (room (cut .before .before)) _ _
+    let a = cut .before .before .before .before .before .before .before .before .args in
+    refused-count (a .settings) (a .string .now) (a .nodes .now) (passed (cut .before .before .before .before)) (room (cut .before .before)) _ _
     (wrote cut) (kept cut) _ (c .before .before .before .before .if3 .taken) (c .before .before .clear .ensures)
 
 mul-clear : tie.Need-mul-clear
@@ -88,8 +93,8 @@ same-length-2 c = c .before .before .clear2 .kept .0 ∙ whole (c .before .befor
 returns-4 : tie.Need-returns-4
 returns-4 c =
     let cut = c .before .before .before .before .before .before .before in
-    let a = cut .before .before .before .before .before .before .before .args in
-    accepted (a .settings) (a .string .now) (a .nodes .now) (passed (cut .before .before .before)) (room (cut .before .before)) _ _
+    let a = cut .before .before .before .before .before .before .before .before .args in
+    accepted (a .settings) (a .string .now) (a .nodes .now) (passed (cut .before .before .before .before)) (room (cut .before .before)) _ _
     (wrote cut) (kept cut) _ _ (c .before .before .before .before .if3 .left) (c .before .before .clear2 .ensures) refl
 
 pub cut-string-spec : {M : Type 1} → statement M
@@ -98,6 +103,7 @@ cut-string-spec =
     (tie.spec
     question-requires
     returns
+    has-room-requires
     returns-2
     slice-relend-prefix-cut-node
     slice-aggregate-cut-node
