@@ -27,9 +27,10 @@ for name; do
     parts=$(cat "$crate"/must-fail/*.edit)
     twice=$(sed -n 's/^# \([a-z0-9_]*\): .*/\1/p' <<< "$parts" | sort | uniq -d)
     [ -z "$twice" ] || say "$crate: a label stands twice: $twice"
-    # A check of a crate without code is cheap, and a wrong definition there may reach every law, so that few share a file.
+    # A check of a crate without code is cheap, and a wrong definition there may reach every law, so that few share a file. A crate with code
+    # has two files, and one more where document 01 calls a program closest to passing.
     files=$(find "$crate/must-fail" -name '*.edit' | wc -l)
-    ! grep -q '^ *\(pub .*\)\?fn ' "$crate"/src/*.rt || [ "$files" -le 2 ] || say "$crate: more than two files of wrong programs"
+    ! grep -q '^ *\(pub .*\)\?fn ' "$crate"/src/*.rt || [ "$files" -le 3 ] || say "$crate: more than three files of wrong programs"
     for edit in "$crate"/must-fail/*.edit; do
         label=$(basename "$edit" .edit)
         where=$tried/$name/$label
