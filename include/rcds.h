@@ -64,11 +64,14 @@
  *  19  nothing pending any more: length right, and id of the output's first
  *      bytes, worked out afresh, right?
  *  20  room for what is written?
+ *  21  range inside the string: start plus length, a true sum that never wraps,
+ *      at most the string's length?
+ *  22  room for the nodes crossed?
  *
- * Every call after a setup asks 1 to 7 again, of the settings that its state
- * holds and of what it is lent. What a sender's state lacks reads as 0, so one
- * that is too short is refused by 1 to 5, the first setting that it lacks. A
- * receiver's state that is too short is refused by 1.
+ * Every call of an end after its setup asks 1 to 7 again, of the settings that
+ * its state holds and of what it is lent. What a sender's state lacks reads as
+ * 0, so one that is too short is refused by 1 to 5, the first setting that it
+ * lacks. A receiver's state that is too short is refused by 1.
  */
 #ifndef RCDS_H
 #define RCDS_H
@@ -91,6 +94,9 @@ extern "C" {
 
 /* The bytes that a node table needs: RCDS_MAX_NODES entries. */
 #define RCDS_NODES_BYTES 65536
+
+/* The bytes of one entry of a table of crossed nodes. */
+#define RCDS_CROSSED_BYTES 16
 
 /* The most children that a node has. */
 #define RCDS_MAX_CHILDREN 32
@@ -151,7 +157,7 @@ extern "C" {
  *
  * answer       what a call answered.
  *
- * "accepted" for an accepted answer, of a refusal by 1 to 20 the number of the
+ * "accepted" for an accepted answer, of a refusal by 1 to 22 the number of the
  * question and its no, "no such question" for any other. The text is constant
  * and stays valid.
  */
@@ -178,12 +184,14 @@ static inline const char *rcds_question_words(uint64_t answer)
         "17: composition, order or multiset not usable",
         "18: output over the announced length",
         "19: length or id of the output wrong",
-        "20: no room for what is written"
+        "20: no room for what is written",
+        "21: range past the string's end",
+        "22: no room for the nodes crossed"
     };
 
     if (RCDS_ACCEPTED(answer))
         return words[0];
-    return answer <= 20 ? words[answer] : "no such question";
+    return answer <= 22 ? words[answer] : "no such question";
 }
 
 /*
@@ -209,7 +217,11 @@ static inline const char *rcds_question_words(uint64_t answer)
  * RCDS_MAX_NODES. The table holds them from its start, each before its
  * children, and a child with all its descendants before its next sibling, from
  * the left. Every node above the last level has 1 to 32 children, and these
- * fill it end to end. Every lent byte of the table past the last node is zero.
+ * fill it end to end. Each node names its parent's place in the table, and its
+ * own place among that parent's children, counted from 0 on the left; the root
+ * names itself, at place 0. So the nodes one level down that name a node fill
+ * it end to end, in order of place. Every lent byte of the table past the last
+ * node is zero.
  *
  * Refused by 1 to 7: the table is unchanged. Refused by 8: every lent byte of
  * it is zero.
@@ -225,10 +237,12 @@ uint64_t rcds_tree(uint64_t w, uint64_t p, uint64_t levels, uint64_t nominal,
 /*
  * Reading a node table.
  *
- * An entry is two rows of 64 bits, most significant byte first: the id, and
- * level + 8 * (length + 2^17 * start). The readers below take the table and
- * the place k of an entry, counted from 0; the table must hold
- * RCDS_NODE_BYTES * (k + 1) bytes. Any content of the entry is read.
+ * An entry is two rows of 64 bits, most significant byte first. The first is
+ * the id. The second holds, from its lowest bit on, level in 3 bits, length in
+ * 17, start in 17, parent in 12 and place in 5; the 10 bits above them are 0.
+ * The readers below take the table and the place k of an entry, counted from 0;
+ * the table must hold RCDS_NODE_BYTES * (k + 1) bytes. Any content of the entry
+ * is read, and the 10 highest bits of its second row are not looked at.
  */
 
 /* Row r of a table: eight bytes as a number. */
@@ -265,6 +279,76 @@ static inline uint64_t rcds_node_length(const uint8_t *nodes, size_t k)
 static inline uint64_t rcds_node_start(const uint8_t *nodes, size_t k)
 {
     return rcds_row(nodes, 2 * k + 1) >> 20 & 0x1ffff;
+}
+
+/* The place of node k's parent in the node table; the root's is 0, its own. */
+static inline uint64_t rcds_node_parent(const uint8_t *nodes, size_t k)
+{
+    return rcds_row(nodes, 2 * k + 1) >> 37 & 0xfff;
+}
+
+/* The place of node k among its parent's children, counted from 0 on the left;
+ * the root's is 0. */
+static inline uint64_t rcds_node_place(const uint8_t *nodes, size_t k)
+{
+    return rcds_row(nodes, 2 * k + 1) >> 49 & 0x1f;
+}
+
+/*
+ * rcds_crossed - the nodes that share a byte with a range of the string.
+ *
+ * string       the string that the tree was cut from, string_len bytes, of any
+ *              length. Only the length is used. Not changed.
+ * nodes        the node table, nodes_len bytes, as rcds_tree or a setup left it.
+ *              Not changed.
+ * start        the place of the range's first byte, counted from the start of
+ *              the string.
+ * length       how many bytes the range has, which may be 0.
+ * crossed      where the nodes crossed go, crossed_len bytes:
+ *              RCDS_CROSSED_BYTES for each. As many bytes as the node table has
+ *              are enough for every answer.
+ *
+ * Asks 21, then 22, and no other.
+ *
+ * Accepted: RCDS_COUNT of the answer is the number of nodes crossed. They stand
+ * at the start of crossed in the order of the node table, each with its parent.
+ * The bytes after them are unchanged. An empty range crosses no node, and a node
+ * without bytes is crossed by none.
+ *
+ * Refused: crossed is unchanged.
+ *
+ * Any length and content of the node table is taken. It is read up to its first
+ * id 0, else to its last whole entry, also past RCDS_MAX_NODES entries. An entry
+ * whose start plus length is past the string's length is passed over; every
+ * other is read as given, and its parent is answered as the entry says it.
+ *
+ * The call ends for every content of the node table. How long it takes is not
+ * proved.
+ */
+uint64_t rcds_crossed(const uint8_t *string, size_t string_len,
+                      const uint8_t *nodes, size_t nodes_len,
+                      uint64_t start, uint64_t length,
+                      uint8_t *crossed, size_t crossed_len);
+
+/*
+ * Reading a table of crossed nodes.
+ *
+ * An entry is two rows of 64 bits, most significant byte first: the node's place
+ * in the node table, and its parent's. The readers below take the table and the
+ * place k of an entry, counted from 0; the table must hold
+ * RCDS_CROSSED_BYTES * (k + 1) bytes. Any content of the entry is read.
+ */
+
+/* The place of crossed node k in the node table. */
+static inline uint64_t rcds_crossed_node(const uint8_t *crossed, size_t k)
+{
+    return rcds_row(crossed, 2 * k);
+}
+
+/* The place of its parent in the node table; the root's is 0, its own. */
+static inline uint64_t rcds_crossed_parent(const uint8_t *crossed, size_t k)
+{
+    return rcds_row(crossed, 2 * k + 1);
 }
 
 /*

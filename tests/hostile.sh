@@ -3,7 +3,7 @@
 #
 #     tests/hostile.sh [SECONDS [SEED]]
 #
-# Forged and damaged strings, settings, messages, tables, states and buffer lengths, drawn as tests/conformance draws them, over fresh seeds
+# Forged and damaged strings, settings, ranges, messages, tables, states and buffer lengths, drawn as tests/conformance draws them, over fresh seeds
 # for so many seconds (60, unless it is told otherwise; building is not counted). Every answer and every lent byte is the reference's.
 #
 # Each lent piece stands between pages that may not be touched: in the first run its last byte is the last before such a page, in the

@@ -2,14 +2,16 @@
 //!
 //!     bench [GROUP...]
 //!
-//! The groups are `tree`, `growth`, `trails`, `setups`, `openings` and `sessions`; none stands for all
-//! that are built in. A group is built in by the feature of its name (`growth` by `tree`), and all are,
+//! The groups are `tree`, `growth`, `crossed`, `trails`, `setups`, `openings` and `sessions`; none stands
+//! for all that are built in. A group is built in by the feature of its name (`growth` by `tree`), and all are,
 //! unless cargo is told otherwise.
 //!
 //! A cost is counted in plain FNV-1a passes, which are timed in turn with the calls. Nothing here
 //! fails because of a time; a wrong answer stops the run.
 
 mod clock;
+#[cfg(feature = "crossed")]
+mod crossed;
 #[cfg(feature = "openings")]
 mod openings;
 mod pass;
@@ -27,6 +29,8 @@ const GROUPS: &[(&str, fn())] = &[
     ("tree", tree::run),
     #[cfg(feature = "tree")]
     ("growth", tree::run_growth),
+    #[cfg(feature = "crossed")]
+    ("crossed", crossed::run),
     #[cfg(feature = "trails")]
     ("trails", trails::run),
     #[cfg(feature = "setups")]

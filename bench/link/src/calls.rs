@@ -209,6 +209,27 @@ pub fn tree(settings: &Settings, string: &[u8], nodes: &mut [u8]) -> Result<usiz
     })
 }
 
+/// How many nodes a range of the string crosses.
+pub fn crossed(
+    string: &[u8],
+    nodes: &[u8],
+    [start, length]: [u64; 2],
+    table: &mut [u8],
+) -> Result<usize, u64> {
+    answered(unsafe {
+        ::calls::rcds_crossed(
+            string.as_ptr(),
+            string.len(),
+            nodes.as_ptr(),
+            nodes.len(),
+            start,
+            length,
+            table.as_mut_ptr(),
+            table.len(),
+        )
+    })
+}
+
 /// The type of a message.
 pub fn message_type(message: &[u8]) -> Result<usize, u64> {
     answered(unsafe { ::calls::rcds_message_type(message.as_ptr(), message.len()) })

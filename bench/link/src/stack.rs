@@ -71,6 +71,10 @@ impl Depths {
 fn session(depths: &mut Depths, settings: &Settings, string: &[u8], own: &[u8]) {
     let mut nodes = vec![0; 65_536];
     let _ = depths.run("rcds_tree", || calls::tree(settings, string, &mut nodes));
+    let mut table = vec![0; 65_536];
+    let _ = depths.run("rcds_crossed", || {
+        calls::crossed(string, &nodes, [0, string.len() as u64], &mut table)
+    });
     let sender = depths.run("rcds_sender_setup", || calls::sender(settings, string));
     let receiver = depths.run("rcds_receiver_setup", || calls::receiver(settings, 1, own));
     let (Ok(sender), Ok(mut receiver)) = (sender, receiver) else {

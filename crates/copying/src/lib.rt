@@ -1,6 +1,5 @@
 // Own nodes' bytes copied to the output, while the top of the pile is the id of one.
 mod output;
-mod search;
 mod turns;
 
 ghost use Rattle.copying.specs.Copying.{Finds, Copies};
@@ -25,11 +24,28 @@ pub struct Copied {
     pub waiting: usize,
 }
 
-// The first node of the table that has this id and lies in the string.
+// An entry's level has three bits.
+const LAST_LEVEL: u64 = 7;
+
+// The first node of the table that has this id, at any level, and lies in the string.
 pub fn find(string: &[u8], nodes: &[u8], id: u64) -> Place
     ensures { λ r. ⌜ Finds (now (string .entry)) (now (nodes .entry)) id r ⌝ }
 {
-    search::first_with(string, nodes, id)
+    let k = node_table::find(nodes, string.len(), 0, LAST_LEVEL, id);
+    if node_table::node_id(nodes, k) == 0 {
+        return Place {
+            there: false,
+            start: 0,
+            size: 0,
+        };
+    }
+    let start = node_table::node_start(nodes, k) as usize;
+    let size = node_table::node_length(nodes, k) as usize;
+    Place {
+        there: true,
+        start,
+        size,
+    }
 }
 
 // Copies own nodes' bytes to the end of the output, as long as the last of the pending nodes has the id of one. Where the output gets

@@ -4,8 +4,8 @@ ghost use lib.ListN.{length};
 ghost use Rattle.copying.specs.Copying.{Zeroed, Copies};
 use super::Copied;
 use super::Waiting;
+use super::find;
 use super::output;
-use super::search;
 
 // Zeroes the output: it would have got too long.
 pub fn too_long(output: &mut [u8]) -> Copied
@@ -36,7 +36,7 @@ pub fn copy_known(
     let mut left = waiting;
     while 0 < left {
         let top = pile[left - 1];
-        let place = search::first_with(string, nodes, top.id);
+        let place = find(string, nodes, top.id);
         if !place.there {
             return Copied {
                 fits: true,

@@ -22,7 +22,8 @@ use Rattle.message.specs.Messages.{Msg, openingQuery, nodeQuery, opening, compo
 use Rattle.message.proofs.Messages.{length-encode}
 use Rattle.message_writer.proofs.Writing.{length-text}
 use Rattle.protocol.specs.Lent.{Lent}
-use Rattle.protocol.specs.Nodes.{Entry, blockIn}
+use Rattle.node_table.specs.declared.Entry.{Entry}
+use Rattle.protocol.specs.Nodes.{blockIn}
 use Rattle.protocol.specs.Sender.{childIds, composable, refsOf, referable, nodeReply, openingReply, replyTo}
 use Rattle.protocol.proofs.Cases.{chosen, same-message, no-message}
 use Rattle.protocol.proofs.Valid.{length-references, length-values}

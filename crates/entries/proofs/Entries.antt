@@ -9,8 +9,9 @@ use native.Mathlib.Decide.{decLe}
 use borrow.Author.Tests.{eqb-false, le-leb, lt-leb}
 use lib.ListN.{length, getD, set, take, drop, length-append, length-drop, take-append-drop, List·getD-eq-default}
 use lib.Seq.{set-out, length-take-le, take-at, take-nil, drop-append-add, drop-drop}
-use Rattle.rows.specs.Rows.{wordOf, wordsOf, bytesOf, storeOf, Stored}
+use Rattle.rows.specs.Rows.{wordOf, wordsOf, bytesOf, put, Stored}
 use Rattle.rows.proofs.Rows.{length-words, words-append}
+use Rattle.rows.proofs.Put.{length-bytes, length-put, store-put, put-put}
 use Rattle.entries.specs.declared.Entry.{Entry}
 use Rattle.entries.specs.Entries.{entry, blank, entriesOf, tableOf, entryBytes, tableBytes, putOf, Put}
 
@@ -71,34 +72,6 @@ put-none t k e h =
       entries = sym (set-out (tableOf t) k e (simp length-table h));
     }
 
--- The bytes e in place of as many of t, from place i on.
-abbrev spliced : List ℕ → ℕ → List ℕ → List ℕ
-spliced t i e = take i t ++ (e ++ drop (i + length e) t)
-
-length-bytes : (x : ℕ) → length (bytesOf x) ≡ 8
-unfolding bytesOf
-length-bytes x = refl
-
-length-spliced : (t e : List ℕ) (i : ℕ) → i + length e ≤ length t → length (spliced t i e) ≡ length t
-length-spliced t e i h = simp (length-append, length-drop, length-take-le i t (omega arith)) (omega arith)
-
-splice-store : (t : List ℕ) (k x i : ℕ) → k * 8 ≡ i → i + 8 ≤ length t → storeOf t k x ≡ spliced t i (bytesOf x)
-unfolding storeOf bytesOf
-splice-store t k x i e h = rw (le-leb (k * 8 + 8) (length t) (omega arith), e)
-
--- Two stretches written one after the other are one.
-splice-splice : (t a b : List ℕ) (i j : ℕ) → j ≡ i + length a → j ≤ length t → spliced (spliced t i a) j b ≡ spliced t i (a ++ b)
-splice-splice t a b i j e h =
-    let front = take i t ++ a in
-    let back = drop (i + length a) t in
-    let long : length front ≡ j = simp (length-append, length-take-le i t (omega arith)) (sym e) in
-    let rest = drop (i + length a + length b) t in
-    let kept : drop (j + length b) (front ++ back) ≡ rest =
-    ap (λ (n : ℕ). drop (n + length b) (front ++ back)) (sym long) ∙ (drop-append-add front back (length b) ∙ drop-drop (length b) (i + length a) t) in
-    let size : i + length (a ++ b) ≡ i + length a + length b = simp length-append (omega arith) in
-    ap (λ (l : List ℕ). take j l ++ (b ++ drop (j + length b) l)) (sym (append-assoc (take i t) a back))
-    ∙ (rw (take-at front back j long, kept, size) (append-assoc (take i t) a (b ++ rest) ∙ ap (λ (l : List ℕ). take i t ++ l) (sym (append-assoc a b rest))))
-
 length-entry : (e : Entry) → length (entryBytes e) ≡ 24
 unfolding entryBytes
 length-entry e = simp (length-append, length-bytes)
@@ -107,7 +80,7 @@ length-entry e = simp (length-append, length-bytes)
 module _ (t₀ t₁ t₂ t₃ : List ℕ) (k : ℕ) (e : Entry) (h : k < length t₀ / 24)
     (one : Stored t₀ t₁ (k * 3) (e .previous)) (two : Stored t₁ t₂ (k * 3 + 1) (e .own)) (three : Stored t₂ t₃ (k * 3 + 2) (e .tail)) where
   put-bytes : t₃ ≡ putOf t₀ k e
-  unfolding putOf entryBytes
+  unfolding putOf entryBytes put
   put-bytes =
       let a = bytesOf (e .previous) in
       let b = bytesOf (e .own) in
@@ -116,18 +89,18 @@ module _ (t₀ t₁ t₂ t₃ : List ℕ) (k : ℕ) (e : Entry) (h : k < length 
       let lb = length-bytes (e .own) in
       let lc = length-bytes (e .tail) in
       let lab : length (a ++ b) ≡ 16 = simp length-append (omega arith) in
-      let first : t₁ ≡ spliced t₀ (k * 24) a = one .bytes ∙ splice-store t₀ (k * 3) _ (k * 24) (omega arith) (omega arith) in
-      let long₁ : length t₁ ≡ length t₀ = ap length first ∙ length-spliced t₀ a (k * 24) (omega arith) in
-      let second : t₂ ≡ spliced t₀ (k * 24) (a ++ b) =
-      two .bytes ∙ (splice-store t₁ (k * 3 + 1) _ (k * 24 + 8) (omega arith) (omega arith)
-      ∙ (ap (λ (t : List ℕ). spliced t (k * 24 + 8) b) first ∙ splice-splice t₀ a b (k * 24) (k * 24 + 8) (omega arith) (omega arith))) in
-      let long₂ : length t₂ ≡ length t₀ = ap length second ∙ length-spliced t₀ (a ++ b) (k * 24) (omega arith) in
-      let third : t₃ ≡ spliced t₀ (k * 24) ((a ++ b) ++ c) =
-      three .bytes ∙ (splice-store t₂ (k * 3 + 2) _ (k * 24 + 16) (omega arith) (omega arith)
-      ∙ (ap (λ (t : List ℕ). spliced t (k * 24 + 16) c) second ∙ splice-splice t₀ (a ++ b) c (k * 24) (k * 24 + 16) (omega arith) (omega arith))) in
+      let first : t₁ ≡ put t₀ (k * 24) a = one .bytes ∙ store-put t₀ (k * 3) _ (k * 24) (omega arith) (omega arith) in
+      let long₁ : length t₁ ≡ length t₀ = ap length first ∙ length-put t₀ a (k * 24) (omega arith) in
+      let second : t₂ ≡ put t₀ (k * 24) (a ++ b) =
+      two .bytes ∙ (store-put t₁ (k * 3 + 1) _ (k * 24 + 8) (omega arith) (omega arith)
+      ∙ (ap (λ (t : List ℕ). put t (k * 24 + 8) b) first ∙ put-put t₀ a b (k * 24) (k * 24 + 8) (omega arith) (omega arith))) in
+      let long₂ : length t₂ ≡ length t₀ = ap length second ∙ length-put t₀ (a ++ b) (k * 24) (omega arith) in
+      let third : t₃ ≡ put t₀ (k * 24) ((a ++ b) ++ c) =
+      three .bytes ∙ (store-put t₂ (k * 3 + 2) _ (k * 24 + 16) (omega arith) (omega arith)
+      ∙ (ap (λ (t : List ℕ). put t (k * 24 + 16) c) second ∙ put-put t₀ (a ++ b) c (k * 24) (k * 24 + 16) (omega arith) (omega arith))) in
       let joined : (a ++ b) ++ c ≡ a ++ (b ++ c) = append-assoc a b c in
       let size : k * 24 + length (a ++ (b ++ c)) ≡ k * 24 + 24 = simp length-append (omega arith) in
-      third ∙ (ap (λ (l : List ℕ). spliced t₀ (k * 24) l) joined ∙ rw (size, le-leb (k * 24 + 24) (length t₀) (omega arith)))
+      third ∙ (ap (λ (l : List ℕ). put t₀ (k * 24) l) joined ∙ rw (size, le-leb (k * 24 + 24) (length t₀) (omega arith)))
 
   pub put-rows : Put t₀ t₃ k e
   put-rows =

@@ -7,7 +7,8 @@ use native.Mathlib.Omega.{arith}
 use lib.ListN.{length}
 use Rattle.tree.specs.declared.Settings.{Settings}
 use Rattle.tree.specs.Tree.{Node, childrenOf, inTurn, treeOf, nodesOf}
-use Rattle.tree.specs.Laws.{Content, content, Each, none, both}
+use Rattle.node_table.specs.Laws.{Each, none, both}
+use Rattle.tree.specs.Laws.{Content, content}
 use Rattle.tree.proofs.Tree.{nodes-shallow}
 use Rattle.protocol.specs.Calls.{Every, Some}
 use Rattle.protocol.specs.Genuine.{blocksOf}

@@ -5,25 +5,26 @@ use mathlib.Core.List.{List, [], _∷_, _++_, map}
 use mathlib.Core.Logic.{inl, inr}
 use mathlib.Core.Option.{Option, none, some}
 use mathlib.Core.Path.{_≡_, refl, sym, ap, _∙_}
-use Prim.Native.Nat.{ℕ, zero, suc, _+_, _*_, _-_, _/_, _≤_, _<_}
+use Prim.Native.Nat.{ℕ, suc, _+_, _*_, _-_, _≤_, _<_}
 use native.Mathlib.Omega.{arith}
-use native.Mathlib.Decide.{decLt}
 use lib.Dec.{eqb}
-use lib.ListN.{length, getD, take, drop, replicate}
+use lib.ListN.{length, getD, take, replicate}
 use lib.Seq.{getD-take}
-use borrow.Author.Tests.{eqb-true, eqb-false}
+use borrow.Author.Tests.{eqb-true}
 use Rattle.entries.proofs.Linear.{both}
 use Rattle.rows.specs.Rows.{wordsOf}
 use Rattle.fnv.specs.Fnv.{blockId}
 use Rattle.tree.specs.declared.Settings.{Settings}
 use Rattle.tree.specs.Questions.{refusal}
-use Rattle.tree.specs.Tree.{Node, node, nodesOf}
-use Rattle.tree.specs.Laws.{Content, content}
-use Rattle.node_table.specs.Entries.{idAt, sizeAt}
-use Rattle.tree.specs.Table.{treeRefusal, treeTable}
+use Rattle.tree.specs.Tree.{nodesOf}
+use Rattle.node_table.specs.Laws.{Each, both as both-within}
+use Rattle.tree.specs.Laws.{Content, content, Within}
+use Rattle.tree.specs.Places.{Placed, placesOf}
+use Rattle.tree.specs.Table.{entryOf as nodeEntry, treeRefusal, treeTable}
 use Rattle.tree.proofs.Questions.{granted}
-use Rattle.tree.proofs.Tree.{each-at, nodes-within}
-use Rattle.tree.proofs.Listed.{node-listed, none-listed}
+use Rattle.tree.proofs.Tree.{nodes-within}
+use Rattle.tree.proofs.Places.{nodeOf, nodes-placed}
+use Rattle.tree.proofs.Reading.{tree-listed}
 use Rattle.entries.specs.Entries.{tableBytes}
 use Rattle.shingle.proofs.PairOrder.{and-true}
 use Rattle.shingle.specs.Table.{shinglesIn, entryOf}
@@ -35,7 +36,9 @@ use Rattle.setup.proofs.Questions.{long-enough}
 use Rattle.setup.proofs.Sizes.{length-cells, length-shingles}
 use Rattle.setup.proofs.Accepted.{setup-passed, nodes-length, shingles-length, cells-length, tree-accepted, tabled, cells-read}
 use Rattle.protocol.specs.Lent.{Lent, refusedBy}
-use Rattle.protocol.specs.Nodes.{Entry, entryAt, inside, entriesFrom, entriesIn, blockIn, fromFirst, firstBlock, look}
+use Rattle.node_table.specs.declared.Entry.{Entry}
+use Rattle.node_table.specs.Nodes.{inside, entriesIn, fromFirst}
+use Rattle.protocol.specs.Nodes.{blockIn, firstBlock, look}
 use Rattle.single.specs.Peeling.{rowsIn}
 use Rattle.protocol.specs.State.{initial}
 use Rattle.single.specs.Peeling.{listTable}
@@ -55,12 +58,6 @@ along-list ws (x ∷ l) i same =
     let first : getD ws i 0 ≡ x = ap (λ (k : ℕ). getD ws k 0) here ∙ same 0 (omega arith) in
     let rest = along-list ws l (suc i) (λ k h. let next : suc i + k ≡ i + suc k = omega arith in ap (λ (j : ℕ). getD ws j 0) next ∙ same (suc k) (omega (arith, h))) in
     λ j. first j ∷ rest j
-
-content-at : (ns : List Node) (k : ℕ) (d : Node) → k < length ns → In (content (getD ns k d)) (map content ns)
-unfolding Some
-content-at [] k d h = absurd (omega (arith, h))
-content-at (n ∷ ns) zero d h = inl refl
-content-at (n ∷ ns) (suc k) d h = inr (content-at ns k d (omega (arith, h)))
 
 -- Bytes under `some`.
 unfoldable bytesIn : Option (List ℕ) → List ℕ
@@ -85,36 +82,19 @@ pub record BlockOf (σ : Settings) (own : List ℕ) (e : Entry) : Type 0 where
   pub id : blockId (of .bytes) ≡ e .id
   pub bytes : blockIn own e ≡ of .bytes
 
-module _ (σ : Settings) (own nodes : List ℕ) (accepted : treeRefusal σ own (length nodes) ≡ 0) where
-  abbrev table : List ℕ
-  table = treeTable σ own nodes
+module _ (σ : Settings) (own : List ℕ) where
+  every-block : (ns : List Placed) → ((c : Content) → In c (map content (map nodeOf ns)) → In c (blocksOf σ own))
+      → Each (λ x. Within own (x .start) (x .bytes)) (map nodeOf ns) → Every (BlockOf σ own) (map nodeEntry ns)
+  unfolding Every Some blockIn
+  every-block [] there within = tt
+  every-block (n ∷ ns) there (both-within w ws) =
+      (record { of = content (n .node); there = there (content (n .node)) (inl refl); id = refl; bytes = w .same }, every-block ns (λ c h. there c (inr h)) ws)
 
-  entry-block : (k : ℕ) → eqb (idAt table k) 0 ≡ false → BlockOf σ own (entryAt table k)
-  unfolding blockIn blocksOf
-  entry-block k e =
-      elim (decLt k (length (nodesOf σ own))) [
-        | yes h ↦
-            let n = getD (nodesOf σ own) k (node 0 0 []) in
-            let listed = node-listed σ own nodes accepted k (node 0 0 []) h in
-            let within = each-at (nodes-within σ own) k (node 0 0 []) h in
-            record {
-              of = content n;
-              there = content-at (nodesOf σ own) k (node 0 0 []) h;
-              id = sym (listed .id);
-              bytes = ap (λ (s : ℕ). take (sizeAt table k) (drop s own)) (listed .start) ∙ (ap (λ (s : ℕ). take s (drop (n .start) own)) (listed .size) ∙ within .same);
-            }
-        | no h ↦ absurd (eqb-false (idAt table k) 0 e (none-listed σ own nodes accepted k (omega (arith, h))))
-      ]
-
-  every-entry : (left k : ℕ) → Every (BlockOf σ own) (entriesFrom table left k)
-  unfolding entriesFrom Every
-  every-entry zero k = tt
-  every-entry (suc left) k = go (eqb (idAt table k) 0) refl (every-entry left (k + 1))
-    where
-      go : (t : Bool) → eqb (idAt table k) 0 ≡ t → Every (BlockOf σ own) (entriesFrom table left (k + 1))
-          → Every (BlockOf σ own) (cond t [] (entryAt table k ∷ entriesFrom table left (k + 1)))
-      go true e rest = unfold Every in tt
-      go false e rest = unfold Every in (entry-block k e, rest)
+  every-entry : (nodes : List ℕ) → treeRefusal σ own (length nodes) ≡ 0 → Every (BlockOf σ own) (entriesIn (treeTable σ own nodes))
+  unfolding blocksOf
+  every-entry nodes accepted =
+      let same = nodes-placed σ own in
+      rw (tree-listed σ own nodes accepted) (every-block (placesOf σ own) (λ c h. rw same at h) (rw same (nodes-within σ own)))
 
   -- What is found under an id is a block of the own tree with that id.
   found-block : (id : ℕ) (es : List Entry) (x : List ℕ) → Every (BlockOf σ own) es → firstBlock own (fromFirst (λ e. inside (length own) e && eqb (e .id) id) es) ≡ some x
@@ -203,12 +183,11 @@ module _ (σ : Settings) (m : Lent) (set-up : SetupAccepts σ m) where
       (apart : (a b : Content) → In a (blocksOf σ own) → In b (blocksOf σ string) → blockId (a .bytes) ≡ blockId (b .bytes) → a .bytes ≡ b .bytes)
       (room : length string ≤ length (m .output)) where
     sound : Sound σ string (look own (left .nodes))
-    unfolding look entriesIn
+    unfolding look
     sound =
         record {
           same = λ c real x e.
-              let found = found-block σ own (m .nodes) accepted (blockId (c .bytes)) _ x
-              (every-entry σ own (m .nodes) accepted (length (treeTable σ own (m .nodes)) / 16) 0) (rw nodes-is at e) in
+              let found = found-block σ own (blockId (c .bytes)) _ x (every-entry σ own (m .nodes) accepted) (rw nodes-is at e) in
               found .3 ∙ apart (found .0) c (found .1) real (found .2);
         }
 

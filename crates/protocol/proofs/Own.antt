@@ -4,76 +4,40 @@ use mathlib.Core.Bool.{Bool, true, false, cond, _&&_}
 use mathlib.Core.List.{List, [], _∷_, _++_, map, append-assoc, append-nil}
 use mathlib.Core.Option.{some}
 use mathlib.Core.Path.{_≡_, refl, sym, ap, subst, _∙_}
-use Prim.Native.Nat.{ℕ, zero, suc, _+_, _/_, _≤_, _<_}
+use Prim.Native.Nat.{ℕ, zero, suc, _+_, _≤_, _<_}
 use native.Mathlib.Omega.{arith}
-use native.Mathlib.Decide.{decLt}
 use lib.Dec.{eqb, leb, ltb}
-use lib.ListN.{length, getD, drop, drop-of-length-le}
-use lib.Seq.{drop-cons}
+use lib.ListN.{length}
 use borrow.Author.Tests.{eqb-true, eq-eqb, ne-eqb, le-leb, lt-leb, ltb-true}
 use Rattle.fnv.specs.Fnv.{blockId}
-use Rattle.fnv.proofs.Fnv.{block-id-nonzero}
 use Rattle.tree.specs.declared.Settings.{Settings}
 use Rattle.tree.specs.Tree.{Node, node, childrenOf, inTurn, treeOf, nodesOf}
-use Rattle.tree.specs.Laws.{content, Each, none as none-within, both as both-within, Within}
-use Rattle.node_table.specs.Entries.{idAt}
-use Rattle.tree.specs.Table.{treeRefusal, treeTable}
+use Rattle.node_table.specs.Laws.{Each, none as none-within, both as both-within}
+use Rattle.tree.specs.Laws.{content, Within}
+use Rattle.tree.specs.Places.{Placed, placesOf}
+use Rattle.tree.specs.Table.{entryOf}
 use Rattle.tree.proofs.Tree.{nodes-within}
-use Rattle.tree.proofs.Listed.{node-listed, none-listed}
+use Rattle.tree.proofs.Places.{nodeOf, nodes-placed}
+use Rattle.tree.proofs.Reading.{tree-listed}
 use Rattle.shingle.specs.declared.Shingle.{Shingle}
 use Rattle.shingle.proofs.PairOrder.{and-true}
 use Rattle.shingle.proofs.Rising.{shingles-rise}
 use Rattle.sort.specs.Shell.{total}
 use Rattle.setup.specs.Tables.{shinglesOfString}
 use Rattle.setup.proofs.Sizes.{few-shingles}
-use Rattle.setup.proofs.Accepted.{setup-passed, nodes-length, first-id}
+use Rattle.setup.proofs.Accepted.{first-id}
 use Rattle.trail.specs.Trails.{trailNumber}
 use Rattle.trail.specs.Calls.{nonzero}
 use Rattle.message.specs.Messages.{Msg, openingQuery, nodeQuery, opening, composition, literal, noNode}
 use Rattle.protocol.specs.Lent.{Lent}
-use Rattle.protocol.specs.Nodes.{Entry, entryAt, inside, entriesFrom, entriesIn, blockIn, fromFirst}
+use Rattle.node_table.specs.Nodes.{inside, entriesIn, fromFirst}
+use Rattle.protocol.specs.Nodes.{blockIn}
 use Rattle.protocol.specs.Sender.{ruleNumber, childIds, composable, refsOf, referable, nodeReply, openingReply, replyTo}
 use Rattle.protocol.specs.Genuine.{blocksOf, childrenIds, firstOf, IsBlockReply, IsNodeReply, IsReply}
 use Rattle.protocol.specs.Demand.{SetupAccepts, leftBySetup}
 use Rattle.protocol.proofs.Memory.{few, made, nodes-is, accepted, cells-again, list-again}
 use Rattle.protocol.proofs.Cases.{same-message, no-message}
 use Rattle.protocol.proofs.Referable.{rising-referable}
-
--- A node as its entry.
-abbrev entryOf : Node → Entry
-entryOf n = record { level = n .level; id = blockId (n .bytes); start = n .start; size = length (n .bytes) }
-
--- The entries of a tree's table are its nodes.
-module _ (σ : Settings) (string nodes : List ℕ) (accepted : treeRefusal σ string (length nodes) ≡ 0) where
-  abbrev table : List ℕ
-  table = treeTable σ string nodes
-
-  abbrev tree : List Node
-  tree = nodesOf σ string
-
-  abbrev nothing : Node
-  nothing = node 0 0 []
-
-  entry-is : (k : ℕ) → k < length tree → entryAt table k ≡ entryOf (getD tree k nothing)
-  entry-is k h =
-      let l = node-listed σ string nodes accepted k nothing h in
-      λ i. record { level = l .level i; id = l .id i; start = l .start i; size = l .size i }
-
-  entries-are : (left k : ℕ) → length tree ≤ left + k → entriesFrom table left k ≡ map entryOf (drop k tree)
-  unfolding entriesFrom
-  entries-are zero k h = sym (ap (map entryOf) (drop-of-length-le tree {i = k} (omega (arith, h))))
-  entries-are (suc left) k h =
-      elim (decLt k (length tree)) [
-        | yes l ↦
-            let n = getD tree k nothing in
-            let e = entry-is k l in
-            let here : idAt table k ≡ blockId (n .bytes) = ap (λ (x : Entry). x .id) e in
-            let next : k + 1 ≡ suc k = omega arith in
-            let rest = entries-are left (k + 1) (omega (arith, h)) ∙ ap (λ (j : ℕ). map entryOf (drop j tree)) next in
-            rw (ne-eqb (idAt table k) 0 (λ z. block-id-nonzero (n .bytes) (sym here ∙ z)), drop-cons tree k nothing l) (λ i. e i ∷ rest i)
-        | no l ↦
-            rw (eq-eqb (idAt table k) 0 (none-listed σ string nodes accepted k (omega (arith, l))), drop-of-length-le tree {i = k} (omega (arith, l))) refl
-      ]
 
 -- The ids one level down, before the next node that is not deeper.
 unfoldable kidsIn : ℕ → List Node → List ℕ
@@ -84,15 +48,15 @@ kidsIn l (n ∷ ns) = cond (leb (n .level) l) [] (cond (eqb (n .level) (l + 1)) 
 abbrev Inside : List ℕ → List Node → Type 0
 Inside string ns = Each (λ x. Within string (x .start) (x .bytes)) ns
 
-lies-inside : (string : List ℕ) (x : Node) → Within string (x .start) (x .bytes) → inside (length string) (entryOf x) ≡ true
-lies-inside string x w = le-leb (x .start + length (x .bytes)) (length string) (w .inside)
+lies-inside : (string : List ℕ) (x : Placed) → Within string (x .node .start) (x .node .bytes) → inside (length string) (entryOf x) ≡ true
+lies-inside string x w = le-leb (x .node .start + length (x .node .bytes)) (length string) (w .inside)
 
-kids-in : (string : List ℕ) (l : ℕ) (ns : List Node) → Inside string ns → childIds (length string) l (map entryOf ns) ≡ kidsIn l ns
+kids-in : (string : List ℕ) (l : ℕ) (ns : List Placed) → Inside string (map nodeOf ns) → childIds (length string) l (map entryOf ns) ≡ kidsIn l (map nodeOf ns)
 unfolding childIds kidsIn
 kids-in string l [] none-within = refl
 kids-in string l (n ∷ ns) (both-within w ws) =
     rw (lies-inside string n w)
-    (λ i. cond (leb (n .level) l) [] (cond (eqb (n .level) (l + 1)) (blockId (n .bytes) ∷ kids-in string l ns ws i) (kids-in string l ns ws i)))
+    (λ i. cond (leb (n .node .level) l) [] (cond (eqb (n .node .level) (l + 1)) (blockId (n .node .bytes) ∷ kids-in string l ns ws i) (kids-in string l ns ws i)))
 
 -- The list ends, or goes on with a node of level l or above it.
 pub data Stops (l : ℕ) : List Node → Type 0 where
@@ -195,16 +159,16 @@ module _ (σ : Settings) where
   tidy-nodes string = subst Tidy (append-nil (treeOf σ (σ .levels) 0 0 string)) (tidy-tree (σ .levels) 0 0 string [] (omega arith) end (unfold Tidy in tt))
 
 -- The first node of a level and id, with what follows it.
-unfoldable fromNode : ℕ → ℕ → List Node → List Node
+unfoldable fromNode : ℕ → ℕ → List Placed → List Placed
 fromNode l i [] = []
-fromNode l i (n ∷ ns) = cond (eqb (n .level) l && eqb (blockId (n .bytes)) i) (n ∷ ns) (fromNode l i ns)
+fromNode l i (n ∷ ns) = cond (eqb (n .node .level) l && eqb (blockId (n .node .bytes)) i) (n ∷ ns) (fromNode l i ns)
 
-from-node : (string : List ℕ) (l i : ℕ) (ns : List Node) → Inside string ns
+from-node : (string : List ℕ) (l i : ℕ) (ns : List Placed) → Inside string (map nodeOf ns)
     → fromFirst (λ e. inside (length string) e && (eqb (e .level) l && eqb (e .id) i)) (map entryOf ns) ≡ map entryOf (fromNode l i ns)
 unfolding fromFirst fromNode
 from-node string l i [] none-within = refl
 from-node string l i (n ∷ ns) (both-within w ws) =
-    rw (lies-inside string n w) (go (eqb (n .level) l && eqb (blockId (n .bytes)) i) (from-node string l i ns ws))
+    rw (lies-inside string n w) (go (eqb (n .node .level) l && eqb (blockId (n .node .bytes)) i) (from-node string l i ns ws))
   where
     go : (t : Bool) → fromFirst (λ e. inside (length string) e && (eqb (e .level) l && eqb (e .id) i)) (map entryOf ns) ≡ map entryOf (fromNode l i ns)
         → cond t (map entryOf (n ∷ ns)) (fromFirst (λ e. inside (length string) e && (eqb (e .level) l && eqb (e .id) i)) (map entryOf ns))
@@ -217,15 +181,15 @@ module _ (σ : Settings) (string : List ℕ) (n l i : ℕ) (listed : length (shi
   abbrev list : List Shingle
   list = shinglesOfString σ string
 
-  module _ (x : Node) (ns : List Node) (level : x .level ≡ l) (kids : x .level < σ .levels → kidsIn (x .level) ns ≡ childrenIds σ (x .level) (x .bytes))
-      (within : Within string (x .start) (x .bytes)) (behind : Inside string ns) where
+  module _ (x : Placed) (ns : List Placed) (level : x .node .level ≡ l) (kids : x .node .level < σ .levels → kidsIn (x .node .level) (map nodeOf ns) ≡ childrenIds σ (x .node .level) (x .node .bytes))
+      (within : Within string (x .node .start) (x .node .bytes)) (behind : Inside string (map nodeOf ns)) where
     abbrev ids : List ℕ
     ids = childIds (length string) l (map entryOf ns)
 
-    ids-are : l < σ .levels → ids ≡ childrenIds σ l (x .bytes)
+    ids-are : l < σ .levels → ids ≡ childrenIds σ l (x .node .bytes)
     ids-are h =
         kids-in string l ns behind
-        ∙ (ap (λ (k : ℕ). kidsIn k ns) (sym level) ∙ (kids (omega (arith, level, h)) ∙ ap (λ (k : ℕ). childrenIds σ k (x .bytes)) level))
+        ∙ (ap (λ (k : ℕ). kidsIn k (map nodeOf ns)) (sym level) ∙ (kids (omega (arith, level, h)) ∙ ap (λ (k : ℕ). childrenIds σ k (x .node .bytes)) level))
 
     shallow-only : (a b : List ℕ) → (l < σ .levels → a ≡ b) → composable σ l a ≡ composable σ l b
     unfolding composable
@@ -242,7 +206,7 @@ module _ (σ : Settings) (string : List ℕ) (n l i : ℕ) (listed : length (shi
     deep-enough a e = ltb-true l (σ .levels) (and-true (ltb l (σ .levels)) _ e .0)
 
     block-reply : (t : Bool) → composable σ l ids ≡ t
-        → IsBlockReply σ string n l i (x .bytes) t (cond t (composition n l i (trailNumber ids) (refsOf list (l + 1) ids)) (literal n l i (blockIn string (entryOf x))))
+        → IsBlockReply σ string n l i (x .node .bytes) t (cond t (composition n l i (trailNumber ids) (refsOf list (l + 1) ids)) (literal n l i (blockIn string (entryOf x))))
     unfolding IsBlockReply blockIn
     block-reply true e =
         let same = ids-are (deep-enough ids e) in
@@ -267,20 +231,20 @@ module _ (σ : Settings) (string : List ℕ) (n l i : ℕ) (listed : length (shi
         go true e = rising-referable list (l + 1) ids (unfold shinglesOfString in shingles-rise _) listed (few-ids ids e)
         go false e = refl
 
-    first-reply : IsNodeReply σ string n l i (some (x .bytes)) (nodeReply σ string list n l i (map entryOf (x ∷ ns)))
+    first-reply : IsNodeReply σ string n l i (some (x .node .bytes)) (nodeReply σ string list n l i (map entryOf (x ∷ ns)))
     unfolding IsNodeReply nodeReply
-    first-reply = rw (few-referred, sym (shallow-only ids (childrenIds σ l (x .bytes)) ids-are)) (block-reply (composable σ l ids) refl)
+    first-reply = rw (few-referred, sym (shallow-only ids (childrenIds σ l (x .node .bytes)) ids-are)) (block-reply (composable σ l ids) refl)
 
-  nodes-reply : (ns : List Node) → Tidy σ ns → Inside string ns
-      → IsNodeReply σ string n l i (firstOf l i (map content ns)) (nodeReply σ string list n l i (map entryOf (fromNode l i ns)))
+  nodes-reply : (ns : List Placed) → Tidy σ (map nodeOf ns) → Inside string (map nodeOf ns)
+      → IsNodeReply σ string n l i (firstOf l i (map content (map nodeOf ns))) (nodeReply σ string list n l i (map entryOf (fromNode l i ns)))
   unfolding firstOf fromNode Tidy
   nodes-reply [] tidy none-within = unfold IsNodeReply nodeReply in refl
-  nodes-reply (x ∷ ns) tidy (both-within w ws) = go (eqb (x .level) l && eqb (blockId (x .bytes)) i) refl (nodes-reply ns (tidy .1) ws)
+  nodes-reply (x ∷ ns) tidy (both-within w ws) = go (eqb (x .node .level) l && eqb (blockId (x .node .bytes)) i) refl (nodes-reply ns (tidy .1) ws)
     where
-      go : (t : Bool) → (eqb (x .level) l && eqb (blockId (x .bytes)) i) ≡ t
-          → IsNodeReply σ string n l i (firstOf l i (map content ns)) (nodeReply σ string list n l i (map entryOf (fromNode l i ns)))
-          → IsNodeReply σ string n l i (cond t (some (x .bytes)) (firstOf l i (map content ns))) (nodeReply σ string list n l i (map entryOf (cond t (x ∷ ns) (fromNode l i ns))))
-      go true e rest = first-reply x ns (eqb-true _ _ (and-true (eqb (x .level) l) _ e .0)) (tidy .0) w ws
+      go : (t : Bool) → (eqb (x .node .level) l && eqb (blockId (x .node .bytes)) i) ≡ t
+          → IsNodeReply σ string n l i (firstOf l i (map content (map nodeOf ns))) (nodeReply σ string list n l i (map entryOf (fromNode l i ns)))
+          → IsNodeReply σ string n l i (cond t (some (x .node .bytes)) (firstOf l i (map content (map nodeOf ns)))) (nodeReply σ string list n l i (map entryOf (cond t (x ∷ ns) (fromNode l i ns))))
+      go true e rest = first-reply x ns (eqb-true _ _ (and-true (eqb (x .node .level) l) _ e .0)) (tidy .0) w ws
       go false e rest = rest
 
 -- A sender's replies, its state and tables as its setup left them, are genuine.
@@ -288,13 +252,8 @@ module _ (σ : Settings) (m : Lent) (set-up : SetupAccepts σ m) where
   abbrev left : Lent
   left = leftBySetup σ m
 
-  entries-left : entriesIn (left .nodes) ≡ map entryOf (nodesOf σ (m .string))
-  unfolding entriesIn
-  entries-left =
-      let given = setup-passed σ (m .string) true (m .nodes) (m .shingles) (m .cells) set-up in
-      let long = nodes-length σ (m .string) (m .nodes) (left .nodes) (m .shingles) (left .shingles) (m .cells) (left .cells) true _ (made σ m set-up) in
-      ap (λ (t : List ℕ). entriesFrom t (length (left .nodes) / 16) 0) (nodes-is σ m set-up)
-      ∙ entries-are σ (m .string) (m .nodes) (accepted σ m set-up) (length (left .nodes) / 16) 0 (omega (arith, given .2, given .1 .node-room, long))
+  entries-left : entriesIn (left .nodes) ≡ map entryOf (placesOf σ (m .string))
+  entries-left = ap entriesIn (nodes-is σ m set-up) ∙ tree-listed σ (m .string) (m .nodes) (accepted σ m set-up)
 
   pub replies-genuine : (query x : Msg) → replyTo σ left query ≡ some x → IsReply σ (m .string) query x
   unfolding replyTo IsReply openingReply blocksOf
@@ -305,12 +264,14 @@ module _ (σ : Settings) (m : Lent) (set-up : SetupAccepts σ m) where
       ∙ (λ j. opening n ruleNumber (σ .window) (σ .«fan_out») (σ .levels) (σ .nominal) (σ .width) (length (m .string)) (id j) (rows j))
   replies-genuine (nodeQuery n l i) x e =
       let list = list-again σ m set-up in
+      let same = nodes-placed σ (m .string) in
+      let within : Inside (m .string) (map nodeOf (placesOf σ (m .string))) = rw same (nodes-within σ (m .string)) in
       let listed : length (shinglesOfString σ (m .string)) ≤ 4096 = omega (arith, few-shingles σ (m .string), few σ m set-up) in
-      let is : x ≡ nodeReply σ (m .string) (shinglesOfString σ (m .string)) n l i (map entryOf (fromNode l i (nodesOf σ (m .string)))) =
+      let is : x ≡ nodeReply σ (m .string) (shinglesOfString σ (m .string)) n l i (map entryOf (fromNode l i (placesOf σ (m .string)))) =
       sym (same-message e)
       ∙ (λ j. nodeReply σ (m .string) (list j) n l i (fromFirst (λ e. inside (length (m .string)) e && (eqb (e .level) l && eqb (e .id) i)) (entries-left j)))
-      ∙ ap (nodeReply σ (m .string) (shinglesOfString σ (m .string)) n l i) (from-node (m .string) l i (nodesOf σ (m .string)) (nodes-within σ (m .string))) in
-      rw is (nodes-reply σ (m .string) n l i listed (nodesOf σ (m .string)) (tidy-nodes σ (m .string)) (nodes-within σ (m .string)))
+      ∙ ap (nodeReply σ (m .string) (shinglesOfString σ (m .string)) n l i) (from-node (m .string) l i (placesOf σ (m .string)) within) in
+      rw is (rw same at (nodes-reply σ (m .string) n l i listed (placesOf σ (m .string)) (rw same (tidy-nodes σ (m .string))) within))
   replies-genuine (opening n rule w p L M q size root cells) x e = absurd (no-message e)
   replies-genuine (composition n l i y refs) x e = absurd (no-message e)
   replies-genuine (literal n l i bytes) x e = absurd (no-message e)

@@ -1,9 +1,9 @@
 -- Whatever bytes a sender's tables hold, a reply that it writes is within its fields, so that what is read of it is what was written.
-use mathlib.Core.Bool.{true, _&&_}
+use mathlib.Core.Bool.{Bool, true, false, cond, _&&_}
 use mathlib.Core.List.{List, [], _∷_}
 use mathlib.Core.Option.{some}
 use mathlib.Core.Path.{_≡_, subst}
-use Prim.Native.Nat.{ℕ, zero, suc, _+_, _*_, _^_, _≤_, _<_}
+use Prim.Native.Nat.{ℕ, zero, suc, _+_, _*_, _/_, _^_, _≤_, _<_}
 use native.Mathlib.Omega.{arith}
 use lib.Dec.{eqb, ltb}
 use lib.ListN.{length, getD, drop, length-append, length-take, length-drop}
@@ -27,7 +27,9 @@ use Rattle.message.specs.Fields.{one, value, values, valuesTo, many, manyTo, on
 use Rattle.message.specs.Fields.{Every as All}
 use Rattle.message.specs.Messages.{Msg, openingQuery, nodeQuery, opening, composition, literal, noNode, cellValues, headed, wordsThen, sizeOf, Parts, Valid}
 use Rattle.protocol.specs.Lent.{Lent, refusedBy}
-use Rattle.protocol.specs.Nodes.{Entry, inside, entriesIn, fromFirst, blockIn}
+use Rattle.node_table.specs.declared.Entry.{Entry}
+use Rattle.node_table.specs.Nodes.{inside, entriesIn, fromFirst}
+use Rattle.protocol.specs.Nodes.{blockIn}
 use Rattle.protocol.specs.Sender.{childIds, composable, refsOf, indexed, referable, nodeReply, openingReply, replyTo}
 use Rattle.protocol.specs.Calls.{Every}
 use Rattle.protocol.proofs.Cases.{chosen, same-message, no-message}
@@ -53,7 +55,11 @@ row-small (a ∷ b ∷ c ∷ d ∷ e ∷ f ∷ g ∷ i ∷ rest) h (suc k) = row
 
 pub id-small : (t : List ℕ) → Every Byte t → (k : ℕ) → idAt t k < 2 ^ 64
 unfolding idAt
-id-small t h k = row-small t h (k * 2)
+id-small t h k = go (ltb k (length t / 16))
+  where
+    go : (b : Bool) → cond b (getD (wordsOf t) (k * 2) 0) 0 < 2 ^ 64
+    go true = row-small t h (k * 2)
+    go false = omega arith
 
 along-small : (n i : ℕ) (f : ℕ → ℕ) → ((k : ℕ) → f k < 2 ^ 64) → All (λ x. x < 2 ^ 64) (along n i f)
 unfolding along

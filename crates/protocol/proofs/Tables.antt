@@ -10,7 +10,7 @@ use Rattle.rows.proofs.Rows.{words-cons}
 use Rattle.fnv.proofs.Fnv.{block-id-small}
 use Rattle.tree.specs.declared.Settings.{Settings}
 use Rattle.tree.specs.Tree.{Node, nodesOf}
-use Rattle.tree.specs.Laws.{Each, none, both}
+use Rattle.node_table.specs.Laws.{Each, none, both}
 use Rattle.tree.proofs.Tree.{nodes-shallow}
 use Rattle.entries.specs.declared.Entry.{Entry}
 use Rattle.entries.specs.Entries.{entriesOf, tableOf, entryBytes, tableBytes}

@@ -14,7 +14,8 @@ use Rattle.fnv.specs.Fnv.{blockId}
 use Rattle.fnv.proofs.Fnv.{block-id-small}
 use Rattle.tree.specs.declared.Settings.{Settings}
 use Rattle.tree.specs.Tree.{Node, nodesOf}
-use Rattle.tree.specs.Laws.{Content, content, Each, none as each-none, both as each-both, Within}
+use Rattle.node_table.specs.Laws.{Each, none as each-none, both as each-both}
+use Rattle.tree.specs.Laws.{Content, content, Within}
 use Rattle.tree.proofs.Questions.{granted}
 use Rattle.tree.proofs.Tree.{nodes-within}
 use Rattle.shingle.specs.declared.Shingle.{Shingle}

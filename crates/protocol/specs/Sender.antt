@@ -19,7 +19,9 @@ use Rattle.trail.specs.Calls.{nonzero}
 use Rattle.message.specs.Words.{Ref}
 use Rattle.message.specs.Messages.{Msg, openingQuery, nodeQuery, opening, composition, literal, noNode, encode, parse}
 use Rattle.protocol.specs.Lent.{Lent, refusedBy}
-use Rattle.protocol.specs.Nodes.{Entry, inside, entriesIn, fromFirst, blockIn}
+use Rattle.node_table.specs.declared.Entry.{Entry}
+use Rattle.node_table.specs.Nodes.{inside, entriesIn, fromFirst}
+use Rattle.protocol.specs.Nodes.{blockIn}
 
 -- "rule (the number 1)"
 abbrev pub ruleNumber : ℕ

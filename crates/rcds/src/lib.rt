@@ -2,6 +2,8 @@
 mod ids;
 
 ghost use mathlib.Core.Path.{_≡_};
+ghost use lib.ListN.{length};
+ghost use Rattle.crossing.specs.Crossing.{Crossed};
 ghost use Rattle.message.specs.Messages.{parse};
 ghost use Rattle.message.specs.Reading.{typeAnswer};
 ghost use Rattle.reply.specs.Reply.{Replied};
@@ -36,6 +38,20 @@ pub extern "C" fn rcds_tree(
         width: 1,
     };
     tree::cut_string(settings, string, nodes)
+}
+
+// Writes the nodes that share a byte with a range of the string, each with its parent. Asked are 21 and 22.
+#[no_mangle]
+pub extern "C" fn rcds_crossed(
+    string: &[u8],
+    nodes: &[u8],
+    start: u64,
+    size: u64,
+    crossed: &mut [u8],
+) -> u64
+    ensures { λ r. ⌜ Crossed (length (now (string .entry))) (now (nodes .entry)) start size (now (crossed .entry)) (now (crossed .exit)) r ⌝ }
+{
+    crossing::crossed(string, nodes, start, size, crossed)
 }
 
 // The number of the order that the ids give, each 8 bytes: 2^32 more than how many trails over its pairs come before it, or 17.

@@ -14,7 +14,7 @@ use Rattle.trail.specs.Trails.{trailNumber}
 use Rattle.trail.specs.Calls.{nonzero, numberAnswer}
 use Rattle.message.specs.Messages.{Msg, composition, encode}
 use Rattle.message_writer.specs.Writing.{Written, paired}
-use Rattle.protocol.specs.Nodes.{entriesFrom}
+use Rattle.node_table.specs.Nodes.{entriesFrom}
 use Rattle.protocol.specs.Sender.{childIds, composable, refsOf, referable}
 use Rattle.reply.specs.Parts.{Collected, Referred, numbered, Attempted, compositionOf, idsBelow, Composing}
 

@@ -3,7 +3,7 @@ use mathlib.Core.Bool.{Bool, true, false, cond, _&&_}
 use mathlib.Core.List.{List, [], _∷_, _++_}
 use mathlib.Core.Option.{Option, none, some}
 use mathlib.Core.Path.{_≡_, refl, sym, ap, _∙_}
-use Prim.Native.Nat.{ℕ, zero, suc, _+_, _*_, _-_, _/_, _^_, _≤_, _<_}
+use Prim.Native.Nat.{ℕ, zero, suc, _+_, _*_, _-_, _^_, _≤_}
 use native.Mathlib.Numerals.{add-one}
 use native.Mathlib.Omega.{arith}
 use borrow.Author.Tests.{eq-eqb, ne-eqb, leb-true}
@@ -11,7 +11,7 @@ use lib.Dec.{leb}
 use lib.ListN.{length, getD, take, drop}
 use Rattle.rows.specs.Rows.{wordsOf}
 use Rattle.tree.specs.declared.Settings.{Settings}
-use Rattle.node_table.specs.Entries.{idAt, startAt, sizeAt}
+use Rattle.node_table.specs.Entries.{idAt, startAt, sizeAt, entryAt}
 use Rattle.shingle.specs.Table.{shinglesIn}
 use Rattle.sketch.specs.Sums.{along}
 use Rattle.single.specs.Peeling.{rowsIn}
@@ -22,11 +22,13 @@ use Rattle.message.specs.declared.Message.{Message}
 use Rattle.message.specs.declared.Message.the-variants.{Bad, OpeningQuery, NodeQuery, Opening, Composition, Literal, NoNode}
 use Rattle.message_writer.specs.Writing.{Written, firstRows}
 use Rattle.protocol.specs.Lent.{lent}
-use Rattle.protocol.specs.Nodes.{entryAt, inside, blockIn}
+use Rattle.node_table.specs.Nodes.{inside, entriesIn, placeOf, sought}
+use Rattle.protocol.specs.Nodes.{blockIn}
 use Rattle.protocol.specs.Sender.{composable, referable, nodeReply, openingReply, replyTo, unwritten, writing, replying, hearing, reply}
 use Rattle.reply.specs.declared.query.Query.{Query}
 use Rattle.reply.specs.Reply.{replyOf, Replied}
-use Rattle.reply.specs.Parts.{Found, Attempted, compositionOf, idsBelow, Composing, openingOf, nodeReplyOf, queryOf}
+use Rattle.reply.proofs.Searching.{none-asked, first-asked}
+use Rattle.reply.specs.Parts.{Attempted, compositionOf, idsBelow, Composing, openingOf, nodeReplyOf, queryOf}
 use Rattle.reply.proofs.Composed.{retold}
 
 -- The rows of the cells, one by one.
@@ -78,23 +80,24 @@ second-case true m₁ m₂ m {b} {a} {a′} {r} e c z w =
 second-case false m₁ m₂ m e c z w = retold (sym e) (rw (← c .no refl .1) w)
 
 -- The reply to a node query.
-module _ (σ : Settings) (string nodes shingles : List ℕ) (n l i k : ℕ) (found : Found nodes (length string) l i k) where
-  pub none-written : {b a : List ℕ} {r : ℕ} → length nodes / 16 ≤ k → Written b a (encode (noNode n l i)) r
+module _ (σ : Settings) (string nodes shingles : List ℕ) (n l i k : ℕ)
+    (is : k ≡ placeOf (sought (length string) l l i) (entriesIn nodes)) where
+  pub none-written : {b a : List ℕ} {r : ℕ} → idAt nodes k ≡ 0 → Written b a (encode (noNode n l i)) r
       → Written b a (encode (nodeReplyOf σ string nodes shingles n l i)) r
   unfolding nodeReplyOf nodeReply
-  none-written h w = retold (rw (found .none h)) w
+  none-written h w = retold (rw (none-asked nodes (length string) l i k is h)) w
 
-  reply-is : k < length nodes / 16 → nodeReplyOf σ string nodes shingles n l i
+  reply-is : (idAt nodes k ≡ 0 → ⊥) → nodeReplyOf σ string nodes shingles n l i
       ≡ cond (composable σ l (idsBelow nodes (length string) l k) && referable (shinglesIn shingles) (l + 1) (idsBelow nodes (length string) l k))
       (compositionOf shingles n l i (idsBelow nodes (length string) l k)) (literal n l i (blockIn string (entryAt nodes k)))
   unfolding nodeReplyOf nodeReply compositionOf idsBelow
-  reply-is h = rw (found .here h)
+  reply-is h = rw (first-asked nodes (length string) l i k is h)
 
-  pub composition-written : {b a : List ℕ} {r : ℕ} → k < length nodes / 16 → Composing σ (length string) nodes shingles n l i k b a r → (r ≡ 0 → ⊥)
+  pub composition-written : {b a : List ℕ} {r : ℕ} → (idAt nodes k ≡ 0 → ⊥) → Composing σ (length string) nodes shingles n l i k b a r → (r ≡ 0 → ⊥)
       → Written b a (encode (nodeReplyOf σ string nodes shingles n l i)) r
   composition-written h c used = first-case _ _ _ _ (reply-is h) c used
 
-  pub literal-written : {b a a′ : List ℕ} {r r′ : ℕ} → k < length nodes / 16 → Composing σ (length string) nodes shingles n l i k b a r → r ≡ 0
+  pub literal-written : {b a a′ : List ℕ} {r r′ : ℕ} → (idAt nodes k ≡ 0 → ⊥) → Composing σ (length string) nodes shingles n l i k b a r → r ≡ 0
       → Written a a′ (encode (literal n l i (blockIn string (entryAt nodes k)))) r′
       → Written b a′ (encode (nodeReplyOf σ string nodes shingles n l i)) r′
   literal-written h c z w = second-case _ _ _ _ (reply-is h) c z w

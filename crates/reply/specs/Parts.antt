@@ -1,12 +1,12 @@
 -- What the parts of replying promise each other. No public contract cites these.
 use mathlib.Core.Bool.{Bool, true, false, cond, _&&_}
-use mathlib.Core.List.{List, [], _∷_}
+use mathlib.Core.List.{List, []}
 use mathlib.Core.Path.{_≡_}
 use Prim.Native.Nat.{ℕ, _+_, _-_, _/_, _≤_, _<_}
 use lib.Dec.{leb, ltb, eqb}
 use lib.ListN.{length, take}
 use Rattle.tree.specs.declared.Settings.{Settings}
-use Rattle.node_table.specs.Entries.{idAt, levelAt}
+use Rattle.node_table.specs.Entries.{idAt, levelAt, entryAt}
 use Rattle.shingle.specs.Table.{shinglesIn}
 use Rattle.trail.specs.Trails.{trailNumber}
 use Rattle.trail.specs.Calls.{nonzero}
@@ -16,7 +16,8 @@ use Rattle.message.specs.declared.Message.{Message}
 use Rattle.message.specs.declared.Message.the-variants.{Bad, OpeningQuery, NodeQuery, Opening, Composition, Literal, NoNode}
 use Rattle.message_writer.specs.Writing.{Written, paired}
 use Rattle.protocol.specs.Lent.{lent}
-use Rattle.protocol.specs.Nodes.{Entry, entryAt, inside, entriesFrom, entriesIn, fromFirst}
+use Rattle.node_table.specs.declared.Entry.{Entry}
+use Rattle.node_table.specs.Nodes.{inside, entriesFrom, entriesIn, fromFirst}
 use Rattle.protocol.specs.Sender.{childIds, composable, refsOf, indexed, referable, nodeReply, openingReply}
 use Rattle.reply.specs.declared.query.Query.{Query}
 
@@ -33,24 +34,9 @@ queryOf (Composition n l i x at count) = query 11 0 0 0
 queryOf (Literal n l i at count) = query 11 0 0 0
 queryOf (NoNode n l i) = query 11 0 0 0
 
--- The entry has that level and id.
-abbrev pub asked : ℕ → ℕ → Entry → Bool
-asked l i e = eqb (e .level) l && eqb (e .id) i
-
--- It lies in a string of n bytes too.
-abbrev pub sought : ℕ → ℕ → ℕ → Entry → Bool
-sought n l i e = inside n e && asked l i e
-
--- So it is with entry k.
-unfoldable pub matchAt : List ℕ → (n l i k : ℕ) → Bool
-matchAt nodes n l i k = sought n l i (entryAt nodes k)
-
--- Entry k is the first of that level and id in a string of n bytes; or there is none, and the table has no entry k.
-pub record Found (nodes : List ℕ) (n l i k : ℕ) : Type 0 where
-  pub here : k < length nodes / 16
-      → fromFirst (sought n l i) (entriesIn nodes) ≡ entryAt nodes k ∷ entriesFrom nodes (length nodes / 16 - (k + 1)) (k + 1)
-  pub in-string : k < length nodes / 16 → inside n (entryAt nodes k) ≡ true
-  pub none : length nodes / 16 ≤ k → fromFirst (sought n l i) (entriesIn nodes) ≡ []
+-- The entry lies in a string of n bytes and has that level and id.
+abbrev pub asked : (n l i : ℕ) → Entry → Bool
+asked n l i e = inside n e && (eqb (e .level) l && eqb (e .id) i)
 
 -- What entry k is to a node of level l before it: 0 the end of its descendants, 1 passed over, 2 a child.
 unfoldable pub roleAt : List ℕ → (n l k : ℕ) → ℕ
@@ -100,4 +86,4 @@ unfoldable pub openingOf : Settings → (string nodes cells : List ℕ) → ℕ 
 openingOf σ string nodes cells n = openingReply σ (lent string nodes [] cells []) n
 
 unfoldable pub nodeReplyOf : Settings → (string nodes shingles : List ℕ) → (session l i : ℕ) → Msg
-nodeReplyOf σ string nodes shingles n l i = nodeReply σ string (shinglesIn shingles) n l i (fromFirst (sought (length string) l i) (entriesIn nodes))
+nodeReplyOf σ string nodes shingles n l i = nodeReply σ string (shinglesIn shingles) n l i (fromFirst (asked (length string) l i) (entriesIn nodes))

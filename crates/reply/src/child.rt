@@ -2,10 +2,9 @@
 ghost use mathlib.Core.Path.{_≡_};
 ghost use Prim.Native.Nat.{_-_, _/_};
 ghost use lib.ListN.{length};
-ghost use Rattle.protocol.specs.Nodes.{entriesFrom};
+ghost use Rattle.node_table.specs.Nodes.{entriesFrom};
 ghost use Rattle.protocol.specs.Sender.{childIds};
 ghost use Rattle.reply.specs.Parts.{roleAt, Collected};
-use crate::place::lies_inside;
 
 // The ids of children: their number, or 33 if they are more than 32.
 pub struct Children {
@@ -27,7 +26,7 @@ fn role(nodes: &[u8], size: usize, level: u64, k: usize) -> u64
     if own - level != 1 {
         return 1;
     }
-    if lies_inside(nodes, size, k) {
+    if node_table::lies_inside(nodes, size, k) {
         return 2;
     }
     1

@@ -2,7 +2,6 @@
 mod child;
 mod composition;
 mod node;
-mod place;
 mod query;
 mod reference;
 

@@ -4,10 +4,11 @@ ghost use mathlib.Core.Path.{_≡_};
 ghost use lib.ListN.{length};
 ghost use Rattle.message.specs.Messages.{encode, literal};
 ghost use Rattle.message_writer.specs.Writing.{Written};
-ghost use Rattle.protocol.specs.Nodes.{inside, entryAt, blockIn};
+ghost use Rattle.node_table.specs.Entries.{entryAt};
+ghost use Rattle.node_table.specs.Nodes.{inside};
+ghost use Rattle.protocol.specs.Nodes.{blockIn};
 ghost use Rattle.reply.specs.Parts.{openingOf, nodeReplyOf};
 use crate::composition::compose;
-use crate::place::find;
 use tree::Settings;
 
 // Writes the opening of a session.
@@ -73,8 +74,8 @@ pub fn node_reply(
         (encode (nodeReplyOf settings (now (string .entry)) (now (nodes .entry)) (now (shingles .entry)) session level id)) r ⌝ }
 {
     let size = string.len();
-    let k = find(nodes, size, level, id);
-    if nodes.len() / 16 <= k {
+    let k = node_table::find(nodes, size, level, level, id);
+    if node_table::node_id(nodes, k) == 0 {
         return message_writer::write_none(buffer, session, level, id);
     }
     let answer = compose(

@@ -1,2 +1,3 @@
 -- Laws of rows.
 pub mod Rows
+pub mod Put

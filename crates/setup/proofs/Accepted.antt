@@ -1,8 +1,8 @@
 -- What those who call setup rely on: which answers are a yes, that lengths are kept, and what is read from the tables after a yes.
 use mathlib.Core.Bool.{Bool, true, false, cond, _&&_}
-use mathlib.Core.List.{List, [], _++_, map}
+use mathlib.Core.List.{List, _++_, map}
 use mathlib.Core.Path.{_≡_, refl, ap, _∙_}
-use Prim.Native.Nat.{ℕ, zero, suc, _+_, _*_, _-_, _^_, _≤_, _<_}
+use Prim.Native.Nat.{ℕ, _+_, _*_, _-_, _^_, _≤_, _<_}
 use native.Mathlib.Nat.{suc-ne-zero}
 use native.Mathlib.Omega.{arith}
 use borrow.Author.Tests.{eq-eqb, eqb-true, le-leb, leb-true}
@@ -14,12 +14,12 @@ use Rattle.rows.proofs.Rows.{words-append}
 use Rattle.fnv.specs.Fnv.{blockId}
 use Rattle.tree.specs.declared.Settings.{Settings}
 use Rattle.tree.specs.Questions.{ask}
-use Rattle.tree.specs.Tree.{Node, node, treeOf, nodesOf}
+use Rattle.tree.specs.Tree.{nodesOf}
+use Rattle.node_table.specs.declared.Entry.{Entry}
 use Rattle.node_table.specs.Entries.{idAt}
 use Rattle.tree.specs.Table.{treeRefusal, treeAnswer, treeTable, Tabled}
 use Rattle.tree.proofs.Questions.{passed}
-use Rattle.tree.proofs.Listed.{node-listed}
-use Rattle.tree.proofs.Tree.{root-first}
+use Rattle.tree.proofs.Reading.{root-entry}
 use Rattle.shingle.specs.declared.Shingle.{Shingle}
 use Rattle.shingle.specs.Table.{nodesIn, shinglesIn}
 use Rattle.shingle.specs.Children.{listedOf}
@@ -47,11 +47,6 @@ length-after refused front t room = go (eqb refused 0) (eqb refused 8) refl
 first-of : (refused : ℕ) (front t : List ℕ) → refused ≡ 0 → setupTable refused front t ≡ front ++ replicate (length t - length front) 0
 unfolding setupTable
 first-of refused front t e = rw e
-
-some-node : (σ : Settings) (left level start : ℕ) (bytes : List ℕ) → 0 < length (treeOf σ left level start bytes)
-unfolding treeOf
-some-node σ zero level start bytes = omega arith
-some-node σ (suc left) level start bytes = omega arith
 
 -- The rows of a cell table's front are the cells.
 cell-rows : (q zeros : ℕ) (ss : List Shingle) → take (q * 15) (wordsOf (rowBytes (cellsOf q ss) ++ replicate zeros 0)) ≡ cellsOf q ss
@@ -158,8 +153,4 @@ module _ (σ : Settings) (string nodes nodes′ shingles shingles′ cells cells
 
     -- The first entry of the node table is the whole string.
     pub first-id : idAt nodes′ 0 ≡ blockId string
-    unfolding nodesOf
-    first-id =
-        ap (λ (t : List ℕ). idAt t 0) (tabled .table)
-        ∙ (node-listed σ string nodes tree-accepted 0 (node 0 0 []) (some-node σ (σ .levels) 0 0 string) .id
-        ∙ ap (λ (n : Node). blockId (n .bytes)) (root-first σ string (node 0 0 [])))
+    first-id = ap (λ (t : List ℕ). idAt t 0) (tabled .table) ∙ ap (λ (e : Entry). e .id) (root-entry σ string nodes tree-accepted)

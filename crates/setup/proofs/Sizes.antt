@@ -4,11 +4,14 @@ use mathlib.Core.Path.{_≡_, refl, ap, _∙_}
 use Prim.Native.Nat.{ℕ, _*_, _≤_}
 use native.Mathlib.Omega.{arith}
 use lib.ListN.{length, length-append, length-map}
+use Rattle.rows.proofs.Put.{length-bytes}
 use Rattle.entries.specs.declared.Entry.{Entry}
 use Rattle.entries.specs.Entries.{entryBytes, tableBytes}
 use Rattle.tree.specs.declared.Settings.{Settings}
 use Rattle.tree.specs.Tree.{nodesOf}
-use Rattle.tree.proofs.Wrote.{length-entries, length-bytes}
+use Rattle.tree.specs.Places.{placesOf}
+use Rattle.tree.proofs.Wrote.{length-nodes}
+use Rattle.tree.proofs.Places.{count-placed}
 use Rattle.shingle.specs.declared.Shingle.{Shingle}
 use Rattle.shingle.specs.Children.{listedOf}
 use Rattle.shingle.specs.Table.{entryOf}
@@ -36,7 +39,7 @@ length-cells q ss = length-sums (q * 15) _
 module _ (σ : Settings) (string : List ℕ) where
   pub node-bytes : length (nodeFront σ string) ≡ length (nodesOf σ string) * 16
   unfolding nodeFront
-  node-bytes = length-entries (nodesOf σ string)
+  node-bytes = length-nodes (placesOf σ string) ∙ ap (λ (n : ℕ). n * 16) (count-placed σ string)
 
   pub shingle-bytes : length (shingleFront σ string) ≡ length (shinglesOfString σ string) * 24
   unfolding shingleFront

@@ -7,6 +7,7 @@ use lib.Dec.{eqb}
 use lib.ListN.{length, replicate}
 use Rattle.tree.specs.declared.Settings.{Settings}
 use Rattle.tree.specs.Tree.{nodesOf}
+use Rattle.tree.specs.Places.{placesOf}
 use Rattle.tree.specs.Table.{entriesOf}
 use Rattle.entries.specs.Entries.{tableBytes}
 use Rattle.shingle.specs.declared.Shingle.{Shingle}
@@ -23,7 +24,7 @@ shinglesOfString σ string = shinglesOf (map listedOf (nodesOf σ string))
 
 -- The used front of each table: the nodes' entries, the shingles' entries, the rows of the cells.
 unfoldable pub nodeFront : Settings → List ℕ → List ℕ
-nodeFront σ string = entriesOf (nodesOf σ string)
+nodeFront σ string = entriesOf (placesOf σ string)
 
 unfoldable pub shingleFront : Settings → List ℕ → List ℕ
 shingleFront σ string = tableBytes (map entryOf (shinglesOfString σ string))

@@ -8,11 +8,12 @@ use borrow.Author.Tests.{eq-eqb, ne-eqb}
 use lib.ListN.{length, getD, take, replicate}
 use lib.Seq.{take-suc-set}
 use Rattle.node_table.specs.Entries.{idAt, levelAt}
+use Rattle.node_table.specs.Nodes.{entriesFrom}
 use Rattle.entries.specs.declared.Entry.{Entry}
 use Rattle.entries.specs.Entries.{entry, tableOf, Put}
 use Rattle.entries.proofs.Entries.{length-table, put-length}
 use Rattle.shingle.specs.Shingles.{Listed, listed, siblingOf, pairsAfter, pairsOf}
-use Rattle.shingle.specs.Table.{listedFrom, nodesIn}
+use Rattle.shingle.specs.Table.{nodeAs, nodesIn}
 use Rattle.shingle.specs.Steps.{Followed, single, Written}
 use Rattle.shingle.proofs.Siblings.{Remembered, remembered-none, remembered-next}
 
@@ -21,17 +22,21 @@ pub firstNodes : List ℕ → ℕ → List Listed
 firstNodes t zero = []
 firstNodes t (suc k) = listed (levelAt t k) (idAt t k) ∷ firstNodes t k
 
+-- The nodes from entry k on, at most so many.
+abbrev listedFrom : List ℕ → ℕ → ℕ → List Listed
+listedFrom t left k = map nodeAs (entriesFrom t left k)
+
 -- The pairs of the nodes from number k on, of at most n.
 abbrev pairsFrom : List ℕ → ℕ → ℕ → List Entry
 pairsFrom t n k = map single (pairsAfter (firstNodes t k) (listedFrom t (n - k) k))
 
-pub listed-zero : (t : List ℕ) (left k : ℕ) → idAt t k ≡ 0 → listedFrom t left k ≡ []
-unfolding listedFrom
+listed-zero : (t : List ℕ) (left k : ℕ) → idAt t k ≡ 0 → listedFrom t left k ≡ []
+unfolding entriesFrom
 listed-zero t zero k e = refl
 listed-zero t (suc left) k e = rw (eq-eqb (idAt t k) 0 e)
 
-pub listed-one : (t : List ℕ) (left k : ℕ) → (idAt t k ≡ 0 → ⊥) → listedFrom t (suc left) k ≡ listed (levelAt t k) (idAt t k) ∷ listedFrom t left (k + 1)
-unfolding listedFrom
+listed-one : (t : List ℕ) (left k : ℕ) → (idAt t k ≡ 0 → ⊥) → listedFrom t (suc left) k ≡ listed (levelAt t k) (idAt t k) ∷ listedFrom t left (k + 1)
+unfolding entriesFrom
 listed-one t left k n = rw (ne-eqb (idAt t k) 0 n)
 
 listed-more : (t : List ℕ) (n k : ℕ) → k < n → (idAt t k ≡ 0 → ⊥)
@@ -44,7 +49,7 @@ unfolding pairsAfter
 pairs-zero t n k e = rw (listed-zero t (n - k) k e)
 
 pairs-full : (t : List ℕ) (n k : ℕ) → n ≤ k → pairsFrom t n k ≡ []
-unfolding pairsAfter listedFrom
+unfolding pairsAfter entriesFrom
 pairs-full t n k h = let z : n - k ≡ 0 = omega arith in rw z
 
 pairs-more : (t : List ℕ) (n k : ℕ) → k < n → (idAt t k ≡ 0 → ⊥)

@@ -2,23 +2,23 @@
 use mathlib.Core.Bool.{Bool, false, cond, _&&_, _||_}
 use mathlib.Core.List.{List, [], _∷_, _++_, map}
 use mathlib.Core.Path.{_≡_}
-use Prim.Native.Nat.{ℕ, zero, suc, _+_, _*_, _-_, _/_, _%_, _^_, _≤_}
+use Prim.Native.Nat.{ℕ, _+_, _*_, _-_, _/_, _%_, _^_, _≤_}
 use lib.Dec.{leb, eqb}
 use lib.ListN.{length, getD, replicate}
-use Rattle.node_table.specs.Entries.{idAt, levelAt}
+use Rattle.node_table.specs.declared.Entry.{Entry as NodeEntry}
+use Rattle.node_table.specs.Nodes.{entriesFrom}
 use Rattle.entries.specs.declared.Entry.{Entry}
 use Rattle.entries.specs.Entries.{entry, blank, tableOf, tableBytes}
 use Rattle.shingle.specs.declared.Shingle.{Shingle}
 use Rattle.shingle.specs.Shingles.{Listed, listed, shinglesOf}
 
--- "A node table is read up to its first id 0": at most so many entries of a node table, from entry k on.
-unfoldable pub listedFrom : List ℕ → ℕ → ℕ → List Listed
-listedFrom t zero k = []
-listedFrom t (suc left) k = cond (eqb (idAt t k) 0) [] (listed (levelAt t k) (idAt t k) ∷ listedFrom t left (k + 1))
+-- A node as its entry in a node table lists it.
+abbrev pub nodeAs : NodeEntry → Listed
+nodeAs e = listed (e .level) (e .id)
 
--- The nodes of a node table, at most 4,096. Past the table's end ids read 0.
+-- The nodes of a node table, at most 4,096: a shingle table has room for so many.
 unfoldable pub nodesIn : List ℕ → List Listed
-nodesIn t = listedFrom t 4096 0
+nodesIn t = map nodeAs (entriesFrom t 4096 0)
 
 -- A shingle as an entry: "tail = level × 65,536 + count".
 abbrev pub entryOf : Shingle → Entry

@@ -4,5 +4,7 @@ pub mod Questions
 pub mod Wrote
 pub mod Walk
 pub mod Tree
-pub mod Listed
+pub mod Places
+pub mod Filling
+pub mod Reading
 pub mod Outcome

@@ -9,13 +9,15 @@ use native.Mathlib.Decide.{decLe}
 use borrow.Author.Tests.{eq-eqb, ne-eqb, le-leb, lt-leb}
 use lib.ListN.{length, take, drop, replicate}
 use lib.Seq.{take-at, length-front}
-use Rattle.rows.specs.Rows.{clearFrom}
+use Rattle.rows.specs.Rows.{clearFrom, put}
 use Rattle.tree.specs.declared.Settings.{Settings}
 use Rattle.tree.specs.Questions.{ask, refusal}
-use Rattle.tree.specs.Tree.{nodesOf, treeOf}
+use Rattle.tree.specs.Tree.{nodesOf}
+use Rattle.tree.specs.Places.{placedTree, placesOf}
 use Rattle.tree.specs.Table.{entriesOf, treeRefusal, treeAnswer, treeTable, Tabled}
-use Rattle.tree.specs.Wrote.{put, Wrote}
-use Rattle.tree.proofs.Wrote.{length-entries}
+use Rattle.tree.specs.Wrote.{Wrote, Finished}
+use Rattle.tree.proofs.Wrote.{length-nodes}
+use Rattle.tree.proofs.Places.{count-placed}
 
 -- Entries written from the start of a table are its front.
 front-put : (t e rest : List ℕ) (n : ℕ) → length e ≡ n → take n (put t 0 e ++ rest) ≡ e
@@ -63,36 +65,45 @@ module _ (σ : Settings) (string before : List ℕ) where
         record { answer = rw k; table = e ∙ rw k }
 
     accepted-with : (after : List ℕ) (r : ℕ) → length (nodesOf σ string) ≤ 4096 → r ≡ 2 ^ 32 + length (nodesOf σ string)
-        → after ≡ entriesOf (nodesOf σ string) ++ replicate (length before - 16 * length (nodesOf σ string)) 0 → Tabled σ string before after r
+        → after ≡ entriesOf (placesOf σ string) ++ replicate (length before - 16 * length (nodesOf σ string)) 0 → Tabled σ string before after r
     unfolding treeRefusal treeAnswer treeTable ask
     accepted-with after r h a e =
         let k : treeRefusal σ string (length before) ≡ 0 = rw (eq-eqb _ 0 asked, le-leb 65536 (length before) room, le-leb (length (nodesOf σ string)) 4096 h) in
         record { answer = a ∙ rw k; table = e ∙ rw k }
 
     -- The first 65,536 bytes of the table were lent to be written to, and came back as `part`.
-    module _ (part : List ℕ) (used : ℕ) (wrote : Wrote (take 65536 before) part 0 (treeOf σ (σ .levels) 0 0 string) used)
+    module _ (part : List ℕ) (used : ℕ) (wrote : Wrote (take 65536 before) part 0 (placedTree σ (σ .levels) 0 0 0 0 0 string) used)
         (kept : length part ≡ length (take 65536 before)) where
       whole : length (part ++ drop 65536 before) ≡ length before
       whole = length-front before part 65536 kept
 
-      pub refused-count : (after : List ℕ) → 4096 < used → after ≡ clearFrom (part ++ drop 65536 before) 0 → Tabled σ string before after 8
-      unfolding clearFrom nodesOf
+      refused-count : (after : List ℕ) → 4096 < used → after ≡ clearFrom (part ++ drop 65536 before) 0 → Tabled σ string before after 8
+      unfolding clearFrom placesOf
       refused-count after h e =
+          let count = count-placed σ string in
           refused-eight after
           (elim (decLe (length (nodesOf σ string)) 4096) [ yes k ↦ let f = wrote .fit (omega arith) in absurd (omega (arith, f .0)) | no k ↦ omega arith ])
           (e ∙ rw (sub-zero, whole))
 
-      pub accepted : (after : List ℕ) (r : ℕ) → used ≤ 4096 → after ≡ clearFrom (part ++ drop 65536 before) (used * 16) → r ≡ 4294967296 + used
+      accepted-nodes : (after : List ℕ) (r : ℕ) → used ≤ 4096 → after ≡ clearFrom (part ++ drop 65536 before) (used * 16) → r ≡ 2 ^ 32 + used
           → Tabled σ string before after r
-      unfolding clearFrom nodesOf
-      accepted after r h e answer =
+      unfolding clearFrom placesOf
+      accepted-nodes after r h e answer =
+          let same = count-placed σ string in
           let count : length (nodesOf σ string) ≤ 4096 =
           elim (decLe (length (nodesOf σ string)) 4096) [ yes k ↦ k | no k ↦ let f = wrote .full (omega arith) in absurd (omega arith) ] in
           let written = wrote .fit (omega arith) in
-          let ns = nodesOf σ string in
-          let used-is : used ≡ length ns = omega (arith, written .0) in
+          let ns = placesOf σ string in
+          let used-is : used ≡ length (nodesOf σ string) = omega (arith, written .0) in
           let front : take (used * 16) (part ++ drop 65536 before) ≡ entriesOf ns =
           ap (λ (l : List ℕ). take (used * 16) (l ++ drop 65536 before)) (written .1)
-          ∙ front-put (take 65536 before) (entriesOf ns) (drop 65536 before) (used * 16) (omega (arith, length-entries ns)) in
-          let zeros : length before - used * 16 ≡ length before - 16 * length ns = omega arith in
-          accepted-with after r count (answer ∙ ap (λ (n : ℕ). 4294967296 + n) used-is) (e ∙ rw (front, whole, zeros))
+          ∙ front-put (take 65536 before) (entriesOf ns) (drop 65536 before) (used * 16) (omega (arith, length-nodes ns)) in
+          let zeros : length before - used * 16 ≡ length before - 16 * length (nodesOf σ string) = omega arith in
+          accepted-with after r count (answer ∙ ap (λ (n : ℕ). 2 ^ 32 + n) used-is) (e ∙ rw (front, whole, zeros))
+
+      pub finished : (after : List ℕ) (r : ℕ) → Finished (part ++ drop 65536 before) after used r → Tabled σ string before after r
+      finished after r f =
+          elim (decLe used 4096) [
+            | yes h ↦ let done = f .few h in accepted-nodes after r h (done .1) (done .0)
+            | no h ↦ let done = f .many (omega arith) in rw (done .0) (refused-count after (omega arith) (done .1))
+          ]

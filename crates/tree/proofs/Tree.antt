@@ -8,9 +8,10 @@ use native.Mathlib.Omega.{arith}
 use lib.ListN.{length, getD, take, drop, length-append, length-drop, length-map}
 use lib.Seq.{take-at, drop-at, take-add, drop-drop, length-take-le, take-all}
 use Rattle.partition.proofs.Blocks.{blocks-join, blocks-some, blocks-few}
+use Rattle.node_table.specs.Laws.{Each, none, both}
 use Rattle.tree.specs.declared.Settings.{Settings}
 use Rattle.tree.specs.Tree.{Node, node, childrenOf, inTurn, treeOf, nodesOf}
-use Rattle.tree.specs.Laws.{Content, content, Each, none, both, Within, total}
+use Rattle.tree.specs.Laws.{Content, content, Within, total}
 
 -- The children of a node fill it, and there are 1 to 32.
 module _ (σ : Settings) (l : ℕ) (bytes : List ℕ) where
@@ -74,11 +75,11 @@ subtree-count σ left level start bytes =
     ap suc (length-in-turn (treeOf σ left (level + 1)) _ (λ a b. count-alike σ left (level + 1) a 0 b) start (childrenOf σ (level + 1) bytes))
 
 -- Every node lies in the string that its tree was cut from.
-each-append : {P : Node → Type 0} {ns ms : List Node} → Each P ns → Each P ms → Each P (ns ++ ms)
+pub each-append : {A : Type 0} {P : A → Type 0} {ns ms : List A} → Each P ns → Each P ms → Each P (ns ++ ms)
 each-append none h = h
 each-append (both p ps) h = both p (each-append ps h)
 
-pub each-at : {P : Node → Type 0} {ns : List Node} → Each P ns → (k : ℕ) (d : Node) → k < length ns → P (getD ns k d)
+pub each-at : {A : Type 0} {P : A → Type 0} {ns : List A} → Each P ns → (k : ℕ) (d : A) → k < length ns → P (getD ns k d)
 each-at none k d h = absurd (not-suc-le-zero h)
 each-at (both p ps) zero d h = p
 each-at (both p ps) (suc k) d h = each-at ps k d (le-of-suc-le-suc h)
@@ -100,18 +101,18 @@ within-split string start x y w =
     )
 
 module _ (string : List ℕ) where
-  abbrev Placed : Node → Type 0
-  Placed n = Within string (n .start) (n .bytes)
+  abbrev Lies : Node → Type 0
+  Lies n = Within string (n .start) (n .bytes)
 
-  in-turn-within : (f : ℕ → List ℕ → List Node) → ((a : ℕ) (b : List ℕ) → Within string a b → Each Placed (f a b))
-      → (a : ℕ) (bs : List (List ℕ)) → Within string a (flatten bs) → Each Placed (inTurn f a bs)
+  in-turn-within : (f : ℕ → List ℕ → List Node) → ((a : ℕ) (b : List ℕ) → Within string a b → Each Lies (f a b))
+      → (a : ℕ) (bs : List (List ℕ)) → Within string a (flatten bs) → Each Lies (inTurn f a bs)
   unfolding inTurn flatten
   in-turn-within f h a [] w = none
   in-turn-within f h a (b ∷ bs) w =
       let parts = within-split string a b (flatten bs) w in
       each-append (h a b (parts .0)) (in-turn-within f h (a + length b) bs (parts .1))
 
-  tree-within : (σ : Settings) (left level start : ℕ) (bytes : List ℕ) → Within string start bytes → Each Placed (treeOf σ left level start bytes)
+  tree-within : (σ : Settings) (left level start : ℕ) (bytes : List ℕ) → Within string start bytes → Each Lies (treeOf σ left level start bytes)
   unfolding treeOf
   tree-within σ zero level start bytes w = both w none
   tree-within σ (suc left) level start bytes w =

@@ -13,25 +13,29 @@ use Rattle.partition.specs.Spread.{Spread, cut}
 use Rattle.partition.proofs.Placed.{cuts-rise}
 use Rattle.tree.specs.declared.Settings.{Settings}
 use Rattle.tree.specs.Questions.{spacing, modulus}
-use Rattle.tree.specs.Tree.{Node, node, childrenOf, inTurn, treeOf}
+use Rattle.tree.specs.Tree.{node, childrenOf}
+use Rattle.tree.specs.Places.{Placed, placed, placedInTurn, placedTree}
 
-pub tree-more : (σ : Settings) (left level start : ℕ) (bytes : List ℕ) → (left ≡ 0 → ⊥)
-    → treeOf σ left level start bytes ≡ node level start bytes ∷ inTurn (treeOf σ (left - 1) (level + 1)) start (childrenOf σ (level + 1) bytes)
-unfolding treeOf
-tree-more σ zero level start bytes h = absurd (h refl)
-tree-more σ (suc left) level start bytes h = rw (← add-one left, add-sub-cancel)
+pub tree-more : (σ : Settings) (left level start at parent place : ℕ) (bytes : List ℕ) → (left ≡ 0 → ⊥)
+    → placedTree σ left level start at parent place bytes
+    ≡ placed (node level start bytes) parent place
+    ∷ placedInTurn (placedTree σ (left - 1) (level + 1)) at start (at + 1) 0 (childrenOf σ (level + 1) bytes)
+unfolding placedTree
+tree-more σ zero level start at parent place bytes h = absurd (h refl)
+tree-more σ (suc left) level start at parent place bytes h = rw (← add-one left, add-sub-cancel)
 
-module _ (σ : Settings) (left level start : ℕ) (bytes : List ℕ) where
-  pub tree-leaf : left ≡ 0 → treeOf σ left level start bytes ≡ node level start bytes ∷ []
-  unfolding treeOf
+module _ (σ : Settings) (left level start at parent place : ℕ) (bytes : List ℕ) where
+  pub tree-leaf : left ≡ 0 → placedTree σ left level start at parent place bytes ≡ placed (node level start bytes) parent place ∷ []
+  unfolding placedTree
   tree-leaf e = rw e
 
--- The children of a node are the blocks between its cuts, walked from the first.
-pub walk-all : (σ : Settings) (left level start : ℕ) (bytes : List ℕ) (n : ℕ) (at : List ℕ)
-    → Found (σ .window) (spacing σ level) (modulus σ level) bytes n at
-    → inTurn (treeOf σ left level) (start + 0) (blocksFrom 0 (take n at) bytes) ≡ inTurn (treeOf σ left level) start (childrenOf σ level bytes)
+-- The children of a node are the blocks between its cuts, walked from the first; the first stands at the entry after the node.
+pub walk-all : (σ : Settings) (left level start next at : ℕ) (bytes : List ℕ) (n : ℕ) (cuts : List ℕ)
+    → Found (σ .window) (spacing σ level) (modulus σ level) bytes n cuts → next ≡ at + 1
+    → placedInTurn (placedTree σ left level) at (start + 0) next 0 (blocksFrom 0 (take n cuts) bytes)
+    ≡ placedInTurn (placedTree σ left level) at start (at + 1) 0 (childrenOf σ level bytes)
 unfolding childrenOf blocksOf
-walk-all σ left level start bytes n at found = rw (found .cuts, add-zero)
+walk-all σ left level start next at bytes n cuts found e = rw (found .cuts, add-zero, e)
 
 pub found-spread : (w h s : ℕ) (bytes : List ℕ) (n : ℕ) (at : List ℕ) → Found w h s bytes n at → Spread 0 0 (take n at) (length bytes)
 found-spread w h s bytes n at found = rw (found .cuts) (cuts-rise w h s bytes)
@@ -41,37 +45,49 @@ next-cut : (at : List ℕ) (n child : ℕ) → child < n → n ≤ length at →
 next-cut at n child h long =
     rw (add-one, ← getD-take n at child 0 h) (drop-cons (take n at) child 0 (simp (length-take-le n at long) h))
 
--- The next child ends at `to`, and the cuts after that lie as the cuts did.
-pub record Parted (from to : ℕ) (cuts : List ℕ) (size : ℕ) : Type 0 where
+-- The next child ends at `to`: at its cut, and the cuts after that lie as the cuts did; or with the node, where no cut is left.
+pub record ChildEnd (from to : ℕ) (at : List ℕ) (n child size : ℕ) : Type 0 where
   pub low : from ≤ to
   pub high : to ≤ size
-  pub rest : Spread 0 to cuts size
+  pub next : child < n → (to ≡ getD at child 0) × Spread 0 to (drop (child + 1) (take n at)) size
+  pub last : n ≤ child → to ≡ size
 
-spread-next : {from to size : ℕ} {cuts : List ℕ} → Spread 0 from (to ∷ cuts) size → Parted from to cuts size
-spread-next (cut low high rest) = record { low = low; high = rw add-zero at high; rest = rw add-zero at rest }
+spread-next : {from c size : ℕ} {cuts : List ℕ} → Spread 0 from (c ∷ cuts) size → (from ≤ c) × ((c ≤ size) × Spread 0 c cuts size)
+spread-next (cut low high rest) = (low, (rw add-zero at high, rw add-zero at rest))
 
-pub parted-next : (at : List ℕ) (n child from size : ℕ) → child < n → n ≤ length at → Spread 0 from (drop child (take n at)) size
-    → Parted from (getD at child 0) (drop (child + 1) (take n at)) size
-parted-next at n child from size h long spread = spread-next (rw (next-cut at n child h long) at spread)
+module _ (from to : ℕ) (at : List ℕ) (n child size : ℕ) where
+  pub ends-at-cut : child < n → n ≤ length at → Spread 0 from (drop child (take n at)) size → to ≡ getD at child 0 → ChildEnd from to at n child size
+  ends-at-cut h long spread e =
+      let s = spread-next (rw (next-cut at n child h long) at spread) in
+      record { low = rw e (s .0); high = rw e (s .1 .0); next = λ k. (e, rw e (s .1 .1)); last = λ k. absurd (omega arith) }
 
-module _ (subtree : ℕ → List ℕ → List Node) (start from : ℕ) (bytes at : List ℕ) (n child : ℕ) where
+  pub ends-with-node : n ≤ child → from ≤ size → to ≡ size → ChildEnd from to at n child size
+  ends-with-node h begun e = record { low = omega arith; high = omega arith; next = λ k. absurd (omega arith); last = λ k. e }
+
+module _ (subtree : (start at parent place : ℕ) → List ℕ → List Placed) (parent start from to entry : ℕ) (bytes at : List ℕ) (n child : ℕ)
+    (long : n ≤ length at) (ends : ChildEnd from to at n child (length bytes)) where
   -- The next child with all below it, then the others.
-  pub walk-next : child < n → n ≤ length at → from ≤ getD at child 0 → getD at child 0 ≤ length bytes
-      → inTurn subtree (start + from) (blocksFrom from (drop child (take n at)) bytes)
-      ≡ subtree (start + from) (take (getD at child 0 - from) (drop from bytes))
-      ++ inTurn subtree (start + getD at child 0) (blocksFrom (getD at child 0) (drop (child + 1) (take n at)) bytes)
-  unfolding inTurn blocksFrom
-  walk-next h long low high =
-      let to = getD at child 0 in
+  pub walk-next : child < n → (next : ℕ)
+      → next ≡ entry + length (subtree (start + from) entry parent child (take (to - from) (drop from bytes)))
+      → placedInTurn subtree parent (start + from) entry child (blocksFrom from (drop child (take n at)) bytes)
+      ≡ subtree (start + from) entry parent child (take (to - from) (drop from bytes))
+      ++ placedInTurn subtree parent (start + to) next (child + 1) (blocksFrom to (drop (child + 1) (take n at)) bytes)
+  unfolding placedInTurn blocksFrom
+  walk-next h next e =
       let first = take (to - from) (drop from bytes) in
       let rest = blocksFrom to (drop (child + 1) (take n at)) bytes in
+      let low = ends .low in
+      let high = ends .high in
       let size : length first ≡ to - from = length-take-le (to - from) (drop from bytes) (simp length-drop (omega arith)) in
-      let next : start + from + length first ≡ start + to = omega arith in
-      rw (next-cut at n child h long) (ap (λ (k : ℕ). subtree (start + from) first ++ inTurn subtree k rest) next)
+      let onward : start + from + length first ≡ start + to = omega arith in
+      let below = subtree (start + from) entry parent child first in
+      rw (next-cut at n child h long, ← ends .next h .0, e)
+      (ap (λ (k : ℕ). below ++ placedInTurn subtree parent k (entry + length below) (child + 1) rest) onward)
 
   -- The last child with all below it.
-  pub walk-last : n ≤ child → n ≤ length at
-      → inTurn subtree (start + from) (blocksFrom from (drop child (take n at)) bytes) ≡ subtree (start + from) (take (length bytes - from) (drop from bytes))
-  unfolding inTurn blocksFrom
-  walk-last h long =
-      rw (drop-of-length-le (take n at) {i = child} (simp (length-take-le n at long) h), take-all (length bytes - from) (drop from bytes) (simp length-drop (omega arith))) (append-nil _)
+  pub walk-last : n ≤ child
+      → placedInTurn subtree parent (start + from) entry child (blocksFrom from (drop child (take n at)) bytes)
+      ≡ subtree (start + from) entry parent child (take (to - from) (drop from bytes))
+  unfolding placedInTurn blocksFrom
+  walk-last h =
+      rw (drop-of-length-le (take n at) {i = child} (simp (length-take-le n at long) h), ends .last h, take-all (length bytes - from) (drop from bytes) (simp length-drop (omega arith))) (append-nil _)

@@ -1,7 +1,9 @@
 -- The tree of blocks and its table, as document 01 has them; `Bounds` and `Wrote` are words of the crate's own functions.
 pub mod Questions
 pub mod Tree
+pub mod Places
 pub mod Table
+pub mod Filling
 pub mod Bounds
 pub mod Wrote
 pub mod Laws

@@ -1,25 +1,33 @@
--- The node table: 16 bytes an entry, two rows of 64 bits. What cutting a string answers and leaves.
+-- The node table: an entry for each node. What cutting a string answers and leaves.
 use mathlib.Core.Bool.{cond}
-use mathlib.Core.List.{List, [], _∷_, _++_}
+use mathlib.Core.List.{List, _++_, map}
 use mathlib.Core.Path.{_≡_}
 use Prim.Native.Nat.{ℕ, _+_, _*_, _-_, _^_}
 use lib.Dec.{leb, eqb}
 use lib.ListN.{length, replicate}
-use Rattle.rows.specs.Rows.{bytesOf}
 use Rattle.fnv.specs.Fnv.{blockId}
-use Rattle.node_table.specs.Entries.{packed}
+use Rattle.node_table.specs.declared.Entry.{Entry}
+use Rattle.node_table.specs.Nodes.{entriesBytes}
 use Rattle.tree.specs.declared.Settings.{Settings}
 use Rattle.tree.specs.Questions.{ask, refusal}
-use Rattle.tree.specs.Tree.{Node, nodesOf}
+use Rattle.tree.specs.Tree.{nodesOf}
+use Rattle.tree.specs.Places.{Placed, placesOf}
 
--- An entry: the row of the id, then the row of level, length and start.
-unfoldable pub entryOf : Node → List ℕ
-entryOf n = bytesOf (blockId (n .bytes)) ++ bytesOf (packed (n .level) (n .start) (length (n .bytes)))
+-- The entry of a node.
+abbrev pub entryOf : Placed → Entry
+entryOf n =
+    record {
+      id = blockId (n .node .bytes);
+      level = n .node .level;
+      start = n .node .start;
+      size = length (n .node .bytes);
+      parent = n .parent;
+      place = n .place;
+    }
 
--- The entries of nodes, one after the other.
-unfoldable pub entriesOf : List Node → List ℕ
-entriesOf [] = []
-entriesOf (n ∷ ns) = entryOf n ++ entriesOf ns
+-- The bytes of nodes' entries, one after the other.
+abbrev pub entriesOf : List Placed → List ℕ
+entriesOf ns = entriesBytes (map entryOf ns)
 
 -- 0, or the number of the first question that fails: 1 to 6, then "7 lent tables long enough for 4,096 nodes", then
 -- "8 at most 4,096 nodes".
@@ -39,7 +47,7 @@ treeAnswer σ string room = cond (eqb (treeRefusal σ string room) 0) (2 ^ 32 + 
 unfoldable pub treeTable : Settings → List ℕ → List ℕ → List ℕ
 treeTable σ string t =
     cond (eqb (treeRefusal σ string (length t)) 0)
-    (entriesOf (nodesOf σ string) ++ replicate (length t - 16 * length (nodesOf σ string)) 0)
+    (entriesOf (placesOf σ string) ++ replicate (length t - 16 * length (nodesOf σ string)) 0)
     (cond (eqb (treeRefusal σ string (length t)) 8) (replicate (length t) 0) t)
 
 -- What cutting a string promises.

@@ -1,6 +1,7 @@
 // Runs FNV-1a's published vectors and some hundred strings through the proved code and prints what comes out. The stored
 // output is what tests/reference prints; its program reference-vectors says the format.
 mod openings;
+mod ranges;
 mod strings;
 
 use libc::STDOUT_FILENO;
@@ -223,4 +224,5 @@ fn main() {
     setup_lines();
     refused_setup_lines();
     openings::lines();
+    ranges::lines();
 }

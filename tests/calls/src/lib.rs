@@ -13,6 +13,17 @@ extern "C" {
         nodes_len: usize,
     ) -> u64;
 
+    pub fn rcds_crossed(
+        string: *const u8,
+        string_len: usize,
+        nodes: *const u8,
+        nodes_len: usize,
+        start: u64,
+        length: u64,
+        crossed: *mut u8,
+        crossed_len: usize,
+    ) -> u64;
+
     pub fn rcds_trail_number(ids: *const u8, ids_len: usize) -> u64;
 
     pub fn rcds_trail_order(

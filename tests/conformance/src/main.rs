@@ -3,8 +3,8 @@
 //!     conformance [GROUP...] [SEED [CASE]]
 //!     conformance [GROUP...] campaign SECONDS SEED
 //!
-//! The groups are `tree`, `trails`, `messages`, `setups`, `replies`, `openings` and `sessions`; none
-//! stands for all that are built in. Without a case it runs all of them, the cases of each on two
+//! The groups are `tree`, `crossed`, `trails`, `messages`, `setups`, `replies`, `openings` and `sessions`;
+//! none stands for all that are built in. Without a case it runs all of them, the cases of each on two
 //! threads, and prints a line for each call; it stops at the first that differs. With a case, and then
 //! with one group, it runs that case alone.
 //!
@@ -33,6 +33,12 @@ const GROUPS: &[Group] = &[
         name: "tree",
         count: conformance::tree::count,
         run: tree::run,
+    },
+    #[cfg(feature = "crossed")]
+    Group {
+        name: "crossed",
+        count: conformance::crossed::count,
+        run: crossed::run,
     },
     #[cfg(feature = "trails")]
     Group {
@@ -82,6 +88,20 @@ mod tree {
         match case {
             None => run_all(seed, rcds_tree),
             Some(number) => run_one(seed, number, rcds_tree),
+        }
+    }
+}
+
+#[cfg(feature = "crossed")]
+mod crossed {
+    use calls::rcds_crossed;
+    use conformance::crossed::{run_all, run_one};
+    use conformance::failure::Failure;
+
+    pub fn run(seed: u64, case: Option<usize>) -> Result<Vec<String>, Failure> {
+        match case {
+            None => run_all(seed, rcds_crossed),
+            Some(number) => run_one(seed, number, rcds_crossed),
         }
     }
 }

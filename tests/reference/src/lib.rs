@@ -1,10 +1,11 @@
-//! Document 01 stated a second time: brute force, in the document's own words and order, with no
-//! regard to speed. What the library answers is compared with what stands here.
+//! Document 01 and its change requests stated a second time: brute force, in the documents' own words and
+//! order, with no regard to speed. What the library answers is compared with what stands here.
 //!
-//! One module for each word of the document. A sentence of the document stands in quotation marks
+//! One module for each word of the documents. A sentence of a document stands in quotation marks
 //! above the lines that say it.
 
 pub mod cell_table;
+pub mod crossed;
 pub mod eulerian;
 pub mod fnv;
 pub mod lent;

@@ -1,5 +1,6 @@
-//! The questions that a setup asks. A function answers `true` for a yes.
+//! The questions that a setup asks, and those of a byte range. A function answers `true` for a yes.
 
+use crate::crossed::{self, Crossed};
 use crate::opening::MOST_SHINGLES;
 use crate::settings::Settings;
 use crate::{cell_table, node_table, sender, shingle_table};
@@ -64,4 +65,14 @@ pub fn state_allowed(state: &[u8]) -> bool {
 /// "8 at most 4,096 nodes?"
 pub fn nodes_allowed(nodes: &[crate::tree::Node]) -> bool {
     nodes.len() <= MOST_NODES
+}
+
+/// "21, start plus length at most the lent string's length". The sum of any two numbers, as it is.
+pub fn range_allowed(string: &[u8], start: u64, length: u64) -> bool {
+    u128::from(start) + u128::from(length) <= string.len() as u128
+}
+
+/// "22, answer fits the lent table"
+pub fn answer_allowed(crossed: &[Crossed], table: &[u8]) -> bool {
+    crossed.len() * crossed::ENTRY_BYTES <= table.len()
 }

@@ -3,6 +3,7 @@
 //! A call answers the number of the first question that had a no; or, accepted, 2^32 and a count
 //! or another small number.
 
+use crate::crossed::{self, crossed};
 use crate::lent::Lent;
 use crate::message::parse;
 use crate::opening::open;
@@ -49,6 +50,25 @@ pub fn rcds_tree(settings: &Settings, string: &[u8], table: &mut [u8]) -> u64 {
     }
     node_table::write(&nodes, table);
     ACCEPTED + nodes.len() as u64
+}
+
+/// `rcds_crossed`: the nodes that share a byte with a range of the string, each with its parent, into
+/// the table. Asks 21 and 22, in this order.
+///
+/// "Checks: 21 ..., first thing in this call; 22, ..., after it, table unchanged by either; no other
+/// is asked."
+pub fn rcds_crossed(string: &[u8], nodes: &[u8], start: u64, length: u64, table: &mut [u8]) -> u64 {
+    if !questions::range_allowed(string, start, length) {
+        return 21;
+    }
+    // After 21 both are numbers of bytes of the string.
+    let range = start as usize..(start + length) as usize;
+    let answer = crossed(string.len(), &node_table::read(nodes), range);
+    if !questions::answer_allowed(&answer, table) {
+        return 22;
+    }
+    crossed::write(&answer, table);
+    ACCEPTED + answer.len() as u64
 }
 
 /// The bytes of an id.

@@ -2,7 +2,10 @@
 //! The head of `bin/reference-vectors.rs` says the format.
 
 use crate::fnv::{block_id, fnv1a};
-use crate::rcds::{rcds_sender_setup, rcds_sketch_open, rcds_tree};
+use crate::listing::line;
+use crate::node_table;
+use crate::rcds::{rcds_crossed, rcds_sender_setup, rcds_sketch_open, rcds_tree, ACCEPTED};
+use crate::row::number;
 use crate::settings::Settings;
 
 /// Published inputs of FNV-1a.
@@ -70,6 +73,28 @@ pub const REFUSED_SETUPS: [[u64; 7]; 5] = [
 /// w, p, L, M, q of the openings that are refused before the sketch is opened, of 100 bytes of kind 2.
 pub const REFUSED_OPENINGS: [[u64; 5]; 3] = [[2, 2, 0, 2, 64], [2, 2, 5, 32, 64], [2, 2, 1, 2, 65]];
 
+/// w, p, L, M, kind, length of the trees whose nodes are printed one by one, and crossed by ranges.
+pub const CROSSED_TREES: [[u64; 6]; 3] = [
+    [2, 2, 1, 2, 1, 5],
+    [2, 2, 4, 16, 1, 17],
+    [2, 2, 4, 16, 0, 0],
+];
+
+/// Start and length of the ranges, and for how many entries there is room.
+pub const RANGES: [[u64; 3]; 11] = [
+    [0, 0, 0],
+    [0, 1, 64],
+    [1, 1, 64],
+    [1, 2, 64],
+    [0, 5, 4],
+    [0, 5, 3],
+    [5, 0, 0],
+    [16, 1, 5],
+    [16, 2, 64],
+    [0, 17, 64],
+    [u64::MAX, 2, 64],
+];
+
 /// The bytes of the tables and of the state before each call.
 pub const BEFORE: u8 = 170;
 
@@ -116,17 +141,24 @@ pub fn string(kind: u64, length: usize) -> Vec<u8> {
     (0..length).map(byte).collect()
 }
 
-/// The line of one tree case.
-fn tree_line(settings: [u64; 4], kind: u64, length: usize) -> String {
-    let [w, p, levels, nominal] = settings;
+/// The answer of `rcds_tree`, and the node table after it.
+fn cut(settings: [u64; 4], string: &[u8]) -> (u64, Vec<u8>) {
+    let [window, fan_out, levels, nominal] = settings;
     let settings = Settings {
-        window: w,
-        fan_out: p,
+        window,
+        fan_out,
         levels,
         nominal,
     };
     let mut table = vec![BEFORE; 65_536];
-    let answer = rcds_tree(&settings, &string(kind, length), &mut table);
+    let answer = rcds_tree(&settings, string, &mut table);
+    (answer, table)
+}
+
+/// The line of one tree case.
+fn tree_line(settings: [u64; 4], kind: u64, length: usize) -> String {
+    let [w, p, levels, nominal] = settings;
+    let (answer, table) = cut(settings, &string(kind, length));
     let digest = fnv1a(&table);
     format!("{w} {p} {levels} {nominal} {kind} {length} {answer} {digest}")
 }
@@ -253,6 +285,39 @@ pub fn opening_lines() -> Vec<String> {
     }
     for settings in REFUSED_OPENINGS {
         lines.push(opening_line(settings, 2, 100));
+    }
+    lines
+}
+
+/// The lines of a node table: level, start, length, parent and place of each node.
+fn node_lines(table: &[u8]) -> Vec<String> {
+    let mut lines = Vec::new();
+    for node in node_table::read(table) {
+        let [start, length, parent, place] =
+            [node.start, node.length, node.parent, node.place].map(|number| number as u64);
+        lines.push(line("node", &[node.level, start, length, parent, place]));
+    }
+    lines
+}
+
+/// The line of one range: its start and length, the room, the answer, and the rows of the nodes crossed.
+fn crossed_line(string: &[u8], nodes: &[u8], [start, length, room]: [u64; 3]) -> String {
+    let mut table = vec![BEFORE; 16 * room as usize];
+    let answer = rcds_crossed(string, nodes, start, length, &mut table);
+    let mut numbers = vec![start, length, room, answer];
+    let rows = 2 * answer.saturating_sub(ACCEPTED) as usize;
+    numbers.extend(table.chunks(8).take(rows).map(number));
+    line("crossed", &numbers)
+}
+
+/// The lines of the trees that are crossed: of each first its nodes, then the ranges.
+pub fn crossed_lines() -> Vec<String> {
+    let mut lines = Vec::new();
+    for [w, p, levels, nominal, kind, length] in CROSSED_TREES {
+        let string = string(kind, length as usize);
+        let (_, nodes) = cut([w, p, levels, nominal], &string);
+        lines.extend(node_lines(&nodes));
+        lines.extend(RANGES.map(|range| crossed_line(&string, &nodes, range)));
     }
     lines
 }

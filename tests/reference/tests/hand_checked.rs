@@ -149,10 +149,19 @@ fn an_entry_is_two_rows() {
         start: 65_535,
         length: 65_536,
         id: 0x0102_0304_0506_0708,
+        parent: 0xabc,
+        place: 21,
     };
     // 4 + 8 × (65,536 + 131,072 × 65,535) = 0xf_fff8_0004
-    let expected = [1, 2, 3, 4, 5, 6, 7, 8, 0, 0, 0, 0x0f, 0xff, 0xf8, 0, 4];
+    // 2^37 × 0xabc = 0x1_5780_0000_0000, 2^49 × 21 = 0x2a_0000_0000_0000
+    let row = [0, 0x2b, 0x57, 0x8f, 0xff, 0xf8, 0, 4];
+    let mut expected = [1, 2, 3, 4, 5, 6, 7, 8, 0, 0, 0, 0, 0, 0, 0, 0];
+    expected[8..].copy_from_slice(&row);
     assert_eq!(node_table::entry(&node), expected);
+    assert_eq!(node_table::node(&expected), node);
+    // From bit 54 on nothing is read.
+    expected[8] = 0xff;
+    expected[9] |= 0xc0;
     assert_eq!(node_table::node(&expected), node);
 }
 

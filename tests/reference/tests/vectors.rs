@@ -1,6 +1,6 @@
 //! The strings and lines that the program `vectors` is compared with.
 
-use reference::vectors::{fnv_lines, setup_lines, string, tree_lines};
+use reference::vectors::{crossed_lines, fnv_lines, setup_lines, string, tree_lines};
 
 #[test]
 fn strings_of_each_kind() {
@@ -42,4 +42,28 @@ fn lines_of_setups() {
     assert_eq!((answers(4), answers(5), answers(6)), (1, 3, 1));
     assert!(answers(8) > 0, "8 refuses no line");
     assert_eq!(answers((1 << 32) + 4_096), 1);
+}
+
+#[test]
+fn lines_of_trees_that_are_crossed() {
+    let lines = crossed_lines();
+    assert_eq!(lines.len(), 61);
+    // Five bytes 07, "cuts 1 and 2": the blocks 0 to 0, 1 to 1 and 2 to 4.
+    let by_hand = [
+        "node 0 0 5 0 0",
+        "node 1 0 1 0 0",
+        "node 1 1 1 0 1",
+        "node 1 2 3 0 2",
+        "crossed 0 0 0 4294967296",
+        "crossed 0 1 64 4294967298 0 0 1 0",
+        "crossed 1 1 64 4294967298 0 0 2 0",
+        "crossed 1 2 64 4294967299 0 0 2 0 3 0",
+        "crossed 0 5 4 4294967300 0 0 1 0 2 0 3 0",
+        "crossed 0 5 3 22",
+        "crossed 5 0 0 4294967296",
+        "crossed 16 1 5 21",
+    ];
+    assert_eq!(lines[..by_hand.len()], by_hand);
+    let exact = "crossed 16 1 5 4294967301 0 0 1 0 10 1 15 10 18 15";
+    assert!(lines.iter().any(|line| line == exact));
 }

@@ -1,22 +1,18 @@
--- Each way out is an outcome of the definition. The first 65,536 bytes of the table are lent to be written, the rest is cleared.
+-- Each way out is an outcome of the definition. The first 65,536 bytes of the table are lent to be written.
 use mathlib.Core.List.{_++_}
-use mathlib.Core.Path.{_≡_, refl, sym, _∙_}
-use Prim.Native.Nat.{ℕ, _+_, _^_, _≤_, _<_}
-use native.Mathlib.Omega.{arith}
+use mathlib.Core.Path.{_≡_, sym, _∙_}
+use Prim.Native.Nat.{_≤_}
 use borrow.Author.Needs.{needs}
 use borrow.Author.Tests.{leb-true, leb-false, not-true, not-false}
 use lib.ListN.{length, take, drop}
 use lib.Seq.{length-take-le, length-front}
 use Rattle.tree.specs.Questions.{refusal}
-use Rattle.tree.specs.Tree.{treeOf}
+use Rattle.tree.specs.Places.{placedTree}
 use Rattle.tree.specs.Wrote.{Wrote}
 use Rattle.tree.proofs.Questions.{first-cutting}
-use Rattle.tree.proofs.Outcome.{refused-settings, refused-room, refused-count, accepted}
+use Rattle.tree.proofs.Outcome.{refused-settings, refused-room, finished}
 use Rattle.tree.proofs.cut_string.Statement.{statement}
 use Rattle.tree.proofs.cut_string.Tie as tie
-
-plus-fits : (used : ℕ) → used ≤ 4096 → 4294967296 + used < 2 ^ 64
-plus-fits used h = omega arith
 
 has-room-requires : tie.Need-has-room-requires
 has-room-requires c κs = search needs
@@ -53,49 +49,30 @@ cut-node-requires c κs = first-cutting _ _ _ (passed (c .before .before .before
 
 -- They came back with the tree written to them, as many as they were, so that the table is as long as it was.
 wrote : (c : tie.After-cut-node) → let a = c .before .before .before .before .before .before .before .before .args in
-    Wrote (take 65536 (a .nodes .now)) (c .cut-node .last .1 .1 .1 .1 .1 .0) 0 (treeOf (a .settings) (a .settings .levels) 0 0 (a .string .now)) (c .cut-node .result)
+    Wrote (take 65536 (a .nodes .now)) (c .cut-node .last .1 .1 .1 .1 .1 .1 .1 .0) 0 (placedTree (a .settings) (a .settings .levels) 0 0 0 0 0 (a .string .now)) (c .cut-node .result)
 wrote c = c .cut-node .ensures
 
 kept : (c : tie.After-cut-node) → let a = c .before .before .before .before .before .before .before .before .args in
-    length (c .cut-node .last .1 .1 .1 .1 .1 .0) ≡ length (take 65536 (a .nodes .now))
-kept c = c .cut-node .kept .1 .1 .1 .1 .1 .0
+    length (c .cut-node .last .1 .1 .1 .1 .1 .1 .1 .0) ≡ length (take 65536 (a .nodes .now))
+kept c = c .cut-node .kept .1 .1 .1 .1 .1 .1 .1 .0
 
 whole : (c : tie.After-cut-node) → let a = c .before .before .before .before .before .before .before .before .args in
-    length (c .cut-node .last .1 .1 .1 .1 .1 .0 ++ drop 65536 (a .nodes .now)) ≡ length (a .nodes .now)
+    length (c .cut-node .last .1 .1 .1 .1 .1 .1 .1 .0 ++ drop 65536 (a .nodes .now)) ≡ length (a .nodes .now)
 whole c =
-    length-front (c .before .before .before .before .before .before .before .before .args .nodes .now) (c .cut-node .last .1 .1 .1 .1 .1 .0) 65536 (kept c)
+    length-front (c .before .before .before .before .before .before .before .before .args .nodes .now) (c .cut-node .last .1 .1 .1 .1 .1 .1 .1 .0) 65536 (kept c)
 
-clear-requires : tie.Need-clear-requires
-clear-requires c κs = search needs
+finish-requires : tie.Need-finish-requires
+finish-requires c κs = search needs
 
 same-length : tie.Need-same-length
-same-length c = c .before .before .clear .kept .0 ∙ whole (c .before .before .before .before .before .before .before)
+same-length c = c .before .before .finish .kept .0 ∙ whole (c .before .before .before .before .before .before)
 
 returns-3 : tie.Need-returns-3
 returns-3 c =
-    let cut = c .before .before .before .before .before .before .before in
+    let cut = c .before .before .before .before .before .before in
     let a = cut .before .before .before .before .before .before .before .before .args in
-    refused-count (a .settings) (a .string .now) (a .nodes .now) (passed (cut .before .before .before .before)) (room (cut .before .before)) _ _
-    (wrote cut) (kept cut) _ (c .before .before .before .before .if3 .taken) (c .before .before .clear .ensures)
-
-mul-clear : tie.Need-mul-clear
-mul-clear c = omega (arith, c .before .if3 .left)
-
-clear-requires-2 : tie.Need-clear-requires-2
-clear-requires-2 c κs = search needs
-
-add-result : tie.Need-add-result
-add-result c = record { fits = plus-fits _ (c .before .before .before .before .if3 .left) }
-
-same-length-2 : tie.Need-same-length-2
-same-length-2 c = c .before .before .clear2 .kept .0 ∙ whole (c .before .before .before .before .before .before .before)
-
-returns-4 : tie.Need-returns-4
-returns-4 c =
-    let cut = c .before .before .before .before .before .before .before in
-    let a = cut .before .before .before .before .before .before .before .before .args in
-    accepted (a .settings) (a .string .now) (a .nodes .now) (passed (cut .before .before .before .before)) (room (cut .before .before)) _ _
-    (wrote cut) (kept cut) _ _ (c .before .before .before .before .if3 .left) (c .before .before .clear2 .ensures) refl
+    finished (a .settings) (a .string .now) (a .nodes .now) (passed (cut .before .before .before .before)) (room (cut .before .before)) _ _
+    (wrote cut) (kept cut) _ _ (c .before .before .finish .ensures)
 
 pub cut-string-spec : {M : Type 1} → statement M
 cut-string-spec =
@@ -108,11 +85,6 @@ cut-string-spec =
     slice-relend-prefix-cut-node
     slice-aggregate-cut-node
     cut-node-requires
-    clear-requires
+    finish-requires
     same-length
-    returns-3
-    mul-clear
-    clear-requires-2
-    add-result
-    same-length-2
-    returns-4)
+    returns-3)

@@ -59,7 +59,7 @@ pub fn nodes(sender: &mut Sender, random: &mut Random) {
     }
     for _ in 0..random.one_of(&[1, 1, 2, 5, 40]) {
         let place = any_place(nodes.len(), random);
-        match random.between(0, 8) {
+        match random.between(0, 10) {
             0 => nodes[place].level = random.between(0, 7),
             1 => nodes[place].start = random.between(0, most) as usize,
             2 => nodes[place].length = random.between(0, most) as usize,
@@ -68,6 +68,8 @@ pub fn nodes(sender: &mut Sender, random: &mut Random) {
             5 => nodes.insert(place, random.one_of(&nodes.clone())),
             6 if nodes.len() > 1 => drop(nodes.remove(place)),
             7 => nodes[place].start = (1 << 17) - 1,
+            8 => nodes[place].parent = random.between(0, 4_095) as usize,
+            9 => nodes[place].place = random.between(0, 31) as usize,
             _ => {
                 let other = any_place(nodes.len(), random);
                 nodes.swap(place, other);

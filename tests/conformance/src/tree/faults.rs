@@ -48,6 +48,22 @@ const TABLE_BEFORE_STRING: u8 = 37;
 const FULL_STRETCHES_ONLY: u8 = 38;
 const ONE_IS_LEAST: u8 = 39;
 const NOTHING_BEFORE_THE_START: u8 = 40;
+const PARENT_FROM_1: u8 = 41;
+const PARENT_LISTED_BEFORE: u8 = 42;
+const PARENT_IN_ITS_LEVEL: u8 = 43;
+const PLACE_FROM_1: u8 = 44;
+const PLACE_FROM_THE_RIGHT: u8 = 45;
+const PLACE_WITHOUT_ITS_HIGHEST_BIT: u8 = 46;
+const PARENT_AND_PLACE_LEFT_OUT: u8 = 47;
+
+/// The parent that a node is listed under: its place in the table and its start; and of the node its
+/// place there.
+#[derive(Clone, Copy)]
+struct Under {
+    parent: usize,
+    start: usize,
+    place: usize,
+}
 
 /// What the recursion carries.
 struct Cutting<'a> {
@@ -143,7 +159,32 @@ impl Cutting<'_> {
         cuts
     }
 
-    fn list(&mut self, start: usize, length: usize, level: u64, parent: usize) {
+    /// The bits of parent and place, from 2^37 on. A place has 5 of them, whatever is counted.
+    fn family(&self, under: Under) -> u64 {
+        let Under { parent, place, .. } = under;
+        let parent = match self.fault {
+            PARENT_FROM_1 => parent + 1,
+            // Of a first child it is the parent.
+            PARENT_LISTED_BEFORE => self.nodes.len().saturating_sub(1),
+            PARENT_IN_ITS_LEVEL => {
+                let level = self.nodes.get(parent).map_or(0, |node| node[1] & 7);
+                let before = self.nodes.iter().take(parent);
+                before.filter(|node| node[1] & 7 == level).count()
+            }
+            PARENT_AND_PLACE_LEFT_OUT => 0,
+            _ => parent,
+        };
+        let place = match self.fault {
+            PLACE_FROM_1 => place + 1,
+            PLACE_WITHOUT_ITS_HIGHEST_BIT => place % 16,
+            PARENT_AND_PLACE_LEFT_OUT => 0,
+            _ => place,
+        };
+        (parent as u64 % 4_096) + 4_096 * (place as u64 % 32)
+    }
+
+    /// The rows of a node.
+    fn node(&self, start: usize, length: usize, level: u64, under: Under) -> [u64; 2] {
         let bytes = &self.string[start..start + length];
         let id = if self.has(ID_0_LEFT) {
             fnv1a(bytes)
@@ -152,11 +193,17 @@ impl Cutting<'_> {
         };
         let shown = level + u64::from(self.has(LEVEL_FROM_1));
         let place = if self.has(START_IN_THE_PARENT) {
-            start - parent
+            start - under.start
         } else {
             start
         };
-        let node = [id, shown + 8 * (length as u64 + (place as u64) * 131_072)];
+        let row = place as u64 + 131_072 * self.family(under);
+        [id, shown + 8 * (length as u64 + 131_072 * row)]
+    }
+
+    fn list(&mut self, start: usize, length: usize, level: u64, under: Under) {
+        let node = self.node(start, length, level, under);
+        let parent = self.nodes.len();
         if !self.has(CHILDREN_FIRST) {
             self.nodes.push(node);
         }
@@ -165,8 +212,17 @@ impl Cutting<'_> {
             let ends = cuts.iter().copied().chain([length]);
             let starts = [0].into_iter().chain(cuts.iter().copied());
             if !(self.has(NO_LONE_CHILD) && cuts.is_empty()) {
-                for (from, to) in starts.zip(ends) {
-                    self.list(start + from, to - from, level + 1, start);
+                for (k, (from, to)) in starts.zip(ends).enumerate() {
+                    let place = match self.fault {
+                        PLACE_FROM_THE_RIGHT => cuts.len() - k,
+                        _ => k,
+                    };
+                    let under = Under {
+                        parent,
+                        start,
+                        place,
+                    };
+                    self.list(start + from, to - from, level + 1, under);
                 }
             }
         }
@@ -234,7 +290,12 @@ fn answer(fault: u8, settings: [u64; 4], string: &[u8], table: &mut [u8]) -> u64
         string,
         nodes: Vec::new(),
     };
-    cutting.list(0, string.len(), 0, 0);
+    let itself = Under {
+        parent: 0,
+        start: 0,
+        place: 0,
+    };
+    cutting.list(0, string.len(), 0, itself);
     let most = match fault {
         ONE_NODE_MORE => 4_097,
         ONE_NODE_FEWER => 4_095,
@@ -315,7 +376,9 @@ fn every_fault_is_found() {
         TABLE_ONE_SHORTER STRING_ONE_LONGER STRING_ONE_SHORTER PAST_THE_TABLE BEFORE_THE_TABLE
         STRING_CHANGED WHOLE_ENTRIES_CLEARED ZEROED_AT_7 LOW_BYTE_FIRST LOW_32_BITS NO_LONE_CHILD
         WINDOW_12_REFUSED LEAST_NOMINAL_REFUSED MOST_NOMINAL_REFUSED STRING_BEFORE_SETTINGS
-        TABLE_BEFORE_STRING FULL_STRETCHES_ONLY ONE_IS_LEAST NOTHING_BEFORE_THE_START
+        TABLE_BEFORE_STRING FULL_STRETCHES_ONLY ONE_IS_LEAST NOTHING_BEFORE_THE_START PARENT_FROM_1
+        PARENT_LISTED_BEFORE PARENT_IN_ITS_LEVEL PLACE_FROM_1 PLACE_FROM_THE_RIGHT
+        PLACE_WITHOUT_ITS_HIGHEST_BIT PARENT_AND_PLACE_LEFT_OUT
     };
     for (name, function) in functions {
         match run(SEED, count(), function) {

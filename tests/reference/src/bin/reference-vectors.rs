@@ -32,6 +32,15 @@
 //!    - The settings, lengths and kinds of the setups above, in the same order, a line each.
 //!    - Then three lines that are refused: kind 2 length 100 with the settings 2 2 0 2 64, 2 2 5 32 64,
 //!      2 2 1 2 65.
+//! 6. The nodes of three trees and the ranges that cross them, 61 lines: kind 1 length 5 with the settings
+//!    2 2 1 2; kind 1 length 17 with 2 2 4 16; kind 0 length 0 with 2 2 4 16. Each is cut as under 3. Of each
+//!    in turn:
+//!    - `node LEVEL START LENGTH PARENT PLACE`, a line for each node, in table order.
+//!    - `crossed START LENGTH ROOM ANSWER`, eleven lines. ANSWER is the answer of `rcds_crossed` with this start
+//!      and length, the string, the node table's 65,536 bytes, and a table with room for so many entries,
+//!      16 bytes each, that are all 170 before the call. Where it is accepted, `NODE PARENT` of each entry
+//!      of the answer follow on the same line. START, LENGTH and ROOM are 0 0 0, 0 1 64, 1 1 64, 1 2 64,
+//!      0 5 4, 0 5 3, 5 0 0, 16 1 5, 16 2 64, 0 17 64, 18446744073709551615 2 64.
 //!
 //! Strings. The random bytes of a string: x starts at 8 × length + kind; for each byte first
 //! x = (x × 6364136223846793005 + 1442695040888963407) mod 2^64, then the byte is x / 2^56.
@@ -43,11 +52,12 @@
 //!   256, where t = k mod 1000 and v = 8 × t if t < 500, else 8 × (1000 − t).
 //! - Kind 5: the first 37 random bytes, over and over: byte i is byte i − 37 from 37 on.
 
-use reference::vectors::{fnv_lines, opening_lines, setup_lines, tree_lines};
+use reference::vectors::{crossed_lines, fnv_lines, opening_lines, setup_lines, tree_lines};
 
 fn main() {
     let lines = fnv_lines().into_iter().chain(tree_lines());
-    for line in lines.chain(setup_lines()).chain(opening_lines()) {
+    let lines = lines.chain(setup_lines()).chain(opening_lines());
+    for line in lines.chain(crossed_lines()) {
         println!("{line}");
     }
 }

@@ -25,8 +25,8 @@ mul-top c = search needs
 array-copy-out-top : tie.Need-array-copy-out-top Inv-loop μ-loop
 array-copy-out-top c = search needs
 
-first-with-requires : tie.Need-first-with-requires Inv-loop μ-loop
-first-with-requires c κs = search needs
+find-requires : tie.Need-find-requires Inv-loop μ-loop
+find-requires c κs = search needs
 
 same-length : tie.Need-same-length Inv-loop μ-loop
 same-length c = search needs
@@ -35,7 +35,7 @@ returns : tie.Need-returns Inv-loop μ-loop
 returns c =
     let found = c .before .before in
     let turn = found .before .before in
-    not-there _ _ _ _ _ _ _ _ _ _ (turn .before .loop .inv) (turn .loop-test .taken) _ refl _ (found .first-with .ensures) (not-true _ (c .if1 .taken))
+    not-there _ _ _ _ _ _ _ _ _ _ (turn .before .loop .inv) (turn .loop-test .taken) _ refl _ (found .find .ensures) (not-true _ (c .if1 .taken))
 
 sub-if2 : tie.Need-sub-if2 Inv-loop μ-loop
 sub-if2 c = search needs
@@ -54,7 +54,7 @@ returns-2 c =
     let inv = turn .before .loop .inv in
     let there = not-false _ (long .before .before .before .if1 .left) in
     zeroed _ _ _ _ _ _ _ _ _ _
-    (too-much _ _ _ _ _ _ _ _ _ _ inv (turn .loop-test .taken) _ refl _ (found .first-with .ensures) there (long .before .before .if2 .taken))
+    (too-much _ _ _ _ _ _ _ _ _ _ inv (turn .loop-test .taken) _ refl _ (found .find .ensures) there (long .before .before .if2 .taken))
     (inv .long) (long .too-long .ensures)
 
 sub-append : tie.Need-sub-append Inv-loop μ-loop
@@ -97,7 +97,7 @@ loop-again c =
     let turn = found .before .before in
     let inv = turn .before .loop .inv in
     let there = not-false _ (written .before .before .before .before .if1 .left) in
-    copied _ _ _ _ _ _ _ _ _ _ inv (turn .loop-test .taken) _ refl _ (found .first-with .ensures) there (written .before .before .before .if2 .left) _ _ _ _ (written .append .ensures) refl refl refl
+    copied _ _ _ _ _ _ _ _ _ _ inv (turn .loop-test .taken) _ refl _ (found .find .ensures) there (written .before .before .before .if2 .left) _ _ _ _ (written .append .ensures) refl refl refl
 
 same-length-3 : tie.Need-same-length-3 Inv-loop μ-loop
 same-length-3 c = search needs
@@ -115,7 +115,7 @@ copy-known-spec =
     sub-top
     mul-top
     array-copy-out-top
-    first-with-requires
+    find-requires
     same-length
     returns
     sub-if2

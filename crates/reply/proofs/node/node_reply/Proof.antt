@@ -1,11 +1,17 @@
 -- Each way out is a case of the definition: the laws of `Replying`.
+use mathlib.Core.Path.{sym, _∙_}
 use borrow.Author.Needs.{needs}
+use Rattle.node_table.proofs.Entries.{there}
+use Rattle.reply.proofs.Searching.{asked-inside}
 use Rattle.reply.proofs.Replying.{none-written, composition-written, literal-written}
 use Rattle.reply.proofs.node.node_reply.Statement.{statement}
 use Rattle.reply.proofs.node.node_reply.Tie as tie
 
 find-requires : tie.Need-find-requires
 find-requires c κs = search needs
+
+node-id-requires : tie.Need-node-id-requires
+node-id-requires c κs = search needs
 
 write-none-requires : tie.Need-write-none-requires
 write-none-requires c κs = search needs
@@ -17,10 +23,13 @@ returns : tie.Need-returns
 returns c =
     let written = c .before .before in
     let none = written .before .before in
-    none-written _ _ _ _ _ _ _ _ (none .before .find .ensures) (none .if1 .taken) (written .write-none .ensures)
+    let sought = none .before in
+    none-written _ _ _ _ _ _ _ _ (sought .before .find .ensures) (sym (sought .node-id .ensures) ∙ none .if1 .taken) (written .write-none .ensures)
 
 compose-requires : tie.Need-compose-requires
-compose-requires c κs = search needs
+compose-requires c κs =
+    let found = c .before in
+    there _ _ (λ z. found .if1 .left (found .before .node-id .ensures ∙ z))
 
 same-length-2 : tie.Need-same-length-2
 same-length-2 c = search needs
@@ -29,12 +38,14 @@ returns-2 : tie.Need-returns-2
 returns-2 c =
     let composed = c .before .before .before in
     let found = composed .before .before in
-    composition-written _ _ _ _ _ _ _ _ (found .before .find .ensures) (found .if1 .left) (composed .compose .ensures) (c .if2 .taken)
+    let sought = found .before in
+    composition-written _ _ _ _ _ _ _ _ (sought .before .find .ensures) (λ z. found .if1 .left (sought .node-id .ensures ∙ z)) (composed .compose .ensures) (c .if2 .taken)
 
 write-bytes-requires : tie.Need-write-bytes-requires
 write-bytes-requires c κs =
     let found = c .before .before .before .before .before .before in
-    found .before .find .ensures .in-string (found .if1 .left)
+    let sought = found .before in
+    asked-inside _ _ _ _ _ (sought .before .find .ensures) (λ z. found .if1 .left (sought .node-id .ensures ∙ z))
 
 same-length-3 : tie.Need-same-length-3
 same-length-3 c = search needs
@@ -45,7 +56,8 @@ returns-3 c =
     let none = written .before .before in
     let composed = none .before .before .before in
     let found = composed .before .before in
-    literal-written _ _ _ _ _ _ _ _ (found .before .find .ensures) (found .if1 .left) (composed .compose .ensures) (none .if2 .left)
+    let sought = found .before in
+    literal-written _ _ _ _ _ _ _ _ (sought .before .find .ensures) (λ z. found .if1 .left (sought .node-id .ensures ∙ z)) (composed .compose .ensures) (none .if2 .left)
     (written .write-bytes .ensures)
 
 pub node-reply-spec : {M : Type 1} → statement M
@@ -53,6 +65,7 @@ node-reply-spec =
     tie.close
     (tie.spec
     find-requires
+    node-id-requires
     write-none-requires
     same-length
     returns

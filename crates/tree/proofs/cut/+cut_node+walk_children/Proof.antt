@@ -1,10 +1,12 @@
 -- The cycle of cutting a node and walking its children. Each writes a stretch of the table, and the laws `after` and `stop`
 -- put the stretches together. The measure is 64 for each level left, and 1 for each child left.
 use borrow.Author.Needs.{needs}
-use Rattle.tree.proofs.Wrote.{after, stop}
-use Rattle.tree.proofs.Walk.{tree-leaf, tree-more, walk-all, found-spread, Parted, parted-next, walk-next, walk-last}
+use Rattle.tree.proofs.Wrote.{after, stop, filled}
+use Rattle.tree.proofs.Walk.{tree-leaf, tree-more, walk-all, found-spread, ChildEnd, ends-at-cut, ends-with-node, walk-next, walk-last}
 use native.Mathlib.Omega.{arith}
-use lib.ListN.{length, getD, take, drop, length-take, length-drop}
+use mathlib.Core.Logic.{⊎-elim}
+use mathlib.Core.Path.{refl}
+use lib.ListN.{length, length-take, length-drop}
 use Prim.Native.Nat.{ℕ, _+_, _*_, _-_, _<_}
 use borrow.Fn.Kinds.{In}
 use borrow.Fn.PlainCycle.{Measures, is, falls, and}
@@ -23,7 +25,7 @@ abbrev μ-cut-node : Measures 2 cut-node-kinds.ps ℕ
 μ-cut-node κs a = a .1 .0 * 64
 
 abbrev μ-walk-children : Measures 2 walk-children-kinds.ps ℕ
-μ-walk-children κs a = a .1 .0 * 64 + 1 + (a .1 .1 .1 .1 .1 .0 .n - a .1 .1 .1 .1 .1 .1 .0)
+μ-walk-children κs a = a .1 .0 * 64 + 1 + (a .1 .1 .1 .1 .1 .0 .n - a .1 .1 .1 .1 .1 .1 .1 .0)
 
 abbrev cut-node-at : ℕ → In 2 cut-node-kinds.ps
 cut-node-at t = and 2 cut-node-kinds.ps (is 2 cut-node-kinds.ps μ-cut-node t) cut-node.Pre
@@ -58,13 +60,13 @@ cut-node-same-length : (t : ℕ) → cut-node-lts.Need-same-length (C t) (cut-no
 cut-node-same-length t c = search needs
 
 cut-node-returns : (t : ℕ) → cut-node-lts.Need-returns (C t) (cut-node-at t) cut-node.Post
-cut-node-returns t c = rw (tree-leaf _ _ _ _ _ (c .if1 .taken)) (c .before .before .before .append .ensures)
+cut-node-returns t c = rw (tree-leaf _ _ _ _ _ _ _ _ (c .if1 .taken)) (c .before .before .before .append .ensures)
 
 cut-node-same-length-2 : (t : ℕ) → cut-node-lts.Need-same-length-2 (C t) (cut-node-at t) cut-node.Post
 cut-node-same-length-2 t c = search needs
 
 cut-node-returns-2 : (t : ℕ) → cut-node-lts.Need-returns-2 (C t) (cut-node-at t) cut-node.Post
-cut-node-returns-2 t c = rw (tree-more _ _ _ _ _ (c .before .if1 .left)) (stop _ _ _ _ _ (c .before .before .before .before .append .ensures) _ (c .if2 .taken))
+cut-node-returns-2 t c = rw (tree-more _ _ _ _ _ _ _ _ (c .before .if1 .left)) (stop _ _ _ _ _ (c .before .before .before .before .append .ensures) _ (c .if2 .taken))
 
 cut-node-add-cuts-at : (t : ℕ) → cut-node-lts.Need-add-cuts-at (C t) (cut-node-at t) cut-node.Post
 cut-node-add-cuts-at t c = search needs
@@ -101,8 +103,10 @@ cut-node-returns-3 t c =
     let cut = c .before .before .before .before in
     let appended = cut .before .before .before .before .before in
     let a = appended .before .before .before .before .args in
-    rw (tree-more _ _ _ _ _ (cut .before .before .if1 .left))
-    (after _ _ _ _ _ (appended .append .ensures) _ _ _ (search needs) (search needs) (rw (walk-all (a .settings) (a .left - 1) (a .level + 1) (a .start) _ _ _ (cut .cuts-at .ensures)) at (c .before .before .walk-children .ensures)))
+    rw (tree-more _ _ _ _ _ _ _ _ (cut .before .before .if1 .left))
+    (after _ _ _ _ _ (appended .append .ensures) _ _ _ (search needs) (search needs)
+    (rw (walk-all (a .settings) (a .left - 1) (a .level + 1) (a .start) _ (a .used) _ _ _ (cut .cuts-at .ensures) (filled _ _ _ _ _ (appended .append .ensures) (search needs)))
+    at (c .before .before .walk-children .ensures)))
 
 walk-children-mul-to : (t : ℕ) → walk-children-lts.Need-mul-to (W t) (walk-children-at t) walk-children.Post
 walk-children-mul-to t c = search needs
@@ -113,32 +117,35 @@ walk-children-element-copy-out-to t c = search needs
 walk-children-add-cut-node : (t : ℕ) → walk-children-lts.Need-add-cut-node (W t) (walk-children-at t) walk-children.Post
 walk-children-add-cut-node t c = search needs
 
--- Where the next child ends, and that the cuts after it lie as the cuts did.
-parted : (t : ℕ) (c : walk-children-lts.Then1 (W t) (walk-children-at t) walk-children.Post)
+-- Where the next child ends, by either branch.
+ends : (t : ℕ) (c : walk-children-lts.Joined1 (W t) (walk-children-at t) walk-children.Post)
     → let a = c .before .before .before .args in
-    Parted (a .from) (getD (a .t6 .at) (a .child) 0) (drop (a .child + 1) (take (a .t6 .n) (a .t6 .at))) (length (a .bytes .now))
-parted t c =
-    let start = c .before .before .before in
-    parted-next (start .args .t6 .at) _ _ _ _ (c .if1 .taken) (search needs) (start .pre .1 .parted)
+    ChildEnd (a .from) (c .if1 .to) (a .t6 .at) (a .t6 .n) (a .child) (length (a .bytes .now))
+ends t c =
+    let pre = c .before .before .before .pre in
+    ⊎-elim
+    (λ w. ends-at-cut _ _ _ _ _ _ (w .0 .taken) (search needs) (pre .1 .parted) (w .2))
+    (λ w. ends-with-node _ _ _ _ _ _ (w .0 .left) (pre .1 .begun) (w .1))
+    (c .if1 .came)
 
 walk-children-sub-cut-node : (t : ℕ) → walk-children-lts.Need-sub-cut-node (W t) (walk-children-at t) walk-children.Post
-walk-children-sub-cut-node t c = parted t (c .before) .low
+walk-children-sub-cut-node t c = ends t (c .before) .low
 
 walk-children-part-cut-node-start : (t : ℕ) → walk-children-lts.Need-part-cut-node-start (W t) (walk-children-at t) walk-children.Post
-walk-children-part-cut-node-start t c = parted t (c .before) .low
+walk-children-part-cut-node-start t c = ends t (c .before) .low
 
 walk-children-part-cut-node-end : (t : ℕ) → walk-children-lts.Need-part-cut-node-end (W t) (walk-children-at t) walk-children.Post
-walk-children-part-cut-node-end t c = parted t (c .before) .high
+walk-children-part-cut-node-end t c = ends t (c .before) .high
 
 walk-children-cut-node-requires : (t : ℕ) → walk-children-lts.Need-cut-node-requires (W t) (walk-children-at t) walk-children.Post
 walk-children-cut-node-requires t c κs =
-    let p = parted t (c .before .before .before) in
+    let e = ends t (c .before .before .before) in
     let pre = c .before .before .before .before .before .before .pre in (
       search needs,
       record {
         settings = pre .1 .node .settings;
         depth = pre .1 .node .depth;
-        inside = simp (length-take, length-drop) (omega (arith, p .low, p .high, pre .1 .node .inside));
+        inside = simp (length-take, length-drop) (omega (arith, e .low, e .high, pre .1 .node .inside));
         room = pre .1 .node .room;
         within = pre .1 .node .within;
       },
@@ -150,17 +157,27 @@ walk-children-same-length t c = search needs
 walk-children-returns : (t : ℕ) → walk-children-lts.Need-returns (W t) (walk-children-at t) walk-children.Post
 walk-children-returns t c =
     let here = c .before .before .before .before .before .before .before in
-    let p = parted t here in
     let a = here .before .before .before .args in
-    rw (walk-next _ (a .start) (a .from) (a .bytes .now) (a .t6 .at) (a .t6 .n) (a .child) (here .if1 .taken) (search needs) (p .low) (p .high)) (stop _ _ _ _ _ (c .before .before .before .cut-node .ensures) _ (c .if2 .taken))
+    rw (walk-last _ (a .parent) (a .start) (a .from) _ (a .used) (a .bytes .now) (a .t6 .at) (a .t6 .n) (a .child) (search needs) (ends t here) (c .if2 .taken))
+    (c .before .before .before .cut-node .ensures)
+
+walk-children-same-length-2 : (t : ℕ) → walk-children-lts.Need-same-length-2 (W t) (walk-children-at t) walk-children.Post
+walk-children-same-length-2 t c = search needs
+
+walk-children-returns-2 : (t : ℕ) → walk-children-lts.Need-returns-2 (W t) (walk-children-at t) walk-children.Post
+walk-children-returns-2 t c =
+    let here = c .before .before .before .before .before .before .before .before in
+    let a = here .before .before .before .args in
+    rw (walk-next _ (a .parent) (a .start) (a .from) _ (a .used) (a .bytes .now) (a .t6 .at) (a .t6 .n) (a .child) (search needs) (ends t here) (c .before .if2 .left) _ refl)
+    (stop _ _ _ _ _ (c .before .before .before .before .cut-node .ensures) _ (c .if3 .taken))
 
 walk-children-add-walk-children : (t : ℕ) → walk-children-lts.Need-add-walk-children (W t) (walk-children-at t) walk-children.Post
 walk-children-add-walk-children t c = search needs
 
 walk-children-walk-children-requires : (t : ℕ) → walk-children-lts.Need-walk-children-requires (W t) (walk-children-at t) walk-children.Post
 walk-children-walk-children-requires t c κs =
-    let here = c .before .before .before .before .before .before .before .before in
-    let p = parted t here in
+    let here = c .before .before .before .before .before .before .before .before .before in
+    let e = ends t here in
     let pre = here .before .before .before .pre in (
       search needs,
       record {
@@ -168,45 +185,22 @@ walk-children-walk-children-requires t c κs =
         slots = pre .1 .slots;
         few = pre .1 .few;
         counted = search needs;
-        begun = p .high;
-        parted = p .rest;
+        begun = e .high;
+        parted = e .next (c .before .before .if2 .left) .1;
       },
     )
-
-walk-children-same-length-2 : (t : ℕ) → walk-children-lts.Need-same-length-2 (W t) (walk-children-at t) walk-children.Post
-walk-children-same-length-2 t c = search needs
-
-walk-children-returns-2 : (t : ℕ) → walk-children-lts.Need-returns-2 (W t) (walk-children-at t) walk-children.Post
-walk-children-returns-2 t c =
-    let here = c .before .before .before .before .before .before .before .before .before .before .before in
-    let p = parted t here in
-    let a = here .before .before .before .args in
-    rw (walk-next _ (a .start) (a .from) (a .bytes .now) (a .t6 .at) (a .t6 .n) (a .child) (here .if1 .taken) (search needs) (p .low) (p .high))
-    (after _ _ _ _ _ (c .before .before .before .before .before .before .before .cut-node .ensures) _ _ _ (search needs) (search needs) (c .before .before .walk-children .ensures))
-
-walk-children-add-cut-node-2 : (t : ℕ) → walk-children-lts.Need-add-cut-node-2 (W t) (walk-children-at t) walk-children.Post
-walk-children-add-cut-node-2 t c = search needs
-
-walk-children-sub-cut-node-2 : (t : ℕ) → walk-children-lts.Need-sub-cut-node-2 (W t) (walk-children-at t) walk-children.Post
-walk-children-sub-cut-node-2 t c = search needs
-
-walk-children-part-cut-node-start-2 : (t : ℕ) → walk-children-lts.Need-part-cut-node-start-2 (W t) (walk-children-at t) walk-children.Post
-walk-children-part-cut-node-start-2 t c = search needs
-
-walk-children-part-cut-node-end-2 : (t : ℕ) → walk-children-lts.Need-part-cut-node-end-2 (W t) (walk-children-at t) walk-children.Post
-walk-children-part-cut-node-end-2 t c = search needs
-
-walk-children-cut-node-requires-2 : (t : ℕ) → walk-children-lts.Need-cut-node-requires-2 (W t) (walk-children-at t) walk-children.Post
-walk-children-cut-node-requires-2 t c κs = search needs
 
 walk-children-same-length-3 : (t : ℕ) → walk-children-lts.Need-same-length-3 (W t) (walk-children-at t) walk-children.Post
 walk-children-same-length-3 t c = search needs
 
 walk-children-returns-3 : (t : ℕ) → walk-children-lts.Need-returns-3 (W t) (walk-children-at t) walk-children.Post
 walk-children-returns-3 t c =
-    let here = c .before .before .before .before .before in
+    let here = c .before .before .before .before .before .before .before .before .before .before .before .before in
     let a = here .before .before .before .args in
-    rw (walk-last _ (a .start) (a .from) (a .bytes .now) (a .t6 .at) (a .t6 .n) (a .child) (here .if1 .left) (search needs)) (c .before .before .cut-node2 .ensures)
+    let first = c .before .before .before .before .before .before .before .before .cut-node .ensures in
+    rw (walk-next _ (a .parent) (a .start) (a .from) _ (a .used) (a .bytes .now) (a .t6 .at) (a .t6 .n) (a .child) (search needs) (ends t here) (c .before .before .before .before .before .if2 .left) _
+    (filled _ _ _ _ _ first (search needs)))
+    (after _ _ _ _ _ first _ _ _ (search needs) (search needs) (c .before .before .walk-children .ensures))
 
 pub +cut-node+walk-children-spec : {M : Type 1} → statement M
 +cut-node+walk-children-spec = close μ-cut-node μ-walk-children (λ t. cut-node-lts.spec (C t)
@@ -237,14 +231,9 @@ pub +cut-node+walk-children-spec : {M : Type 1} → statement M
     (walk-children-cut-node-requires t)
     (walk-children-same-length t)
     (walk-children-returns t)
-    (walk-children-add-walk-children t)
-    (walk-children-walk-children-requires t)
     (walk-children-same-length-2 t)
     (walk-children-returns-2 t)
-    (walk-children-add-cut-node-2 t)
-    (walk-children-sub-cut-node-2 t)
-    (walk-children-part-cut-node-start-2 t)
-    (walk-children-part-cut-node-end-2 t)
-    (walk-children-cut-node-requires-2 t)
+    (walk-children-add-walk-children t)
+    (walk-children-walk-children-requires t)
     (walk-children-same-length-3 t)
     (walk-children-returns-3 t)

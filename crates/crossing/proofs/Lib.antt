@@ -1,0 +1,3 @@
+-- The laws behind the crossed nodes.
+mod Crossing
+pub mod Exact
