@@ -12,6 +12,8 @@
 mod clock;
 #[cfg(feature = "crossed")]
 mod crossed;
+#[cfg(any(feature = "tree", feature = "crossed"))]
+mod cut;
 #[cfg(feature = "openings")]
 mod openings;
 mod pass;

@@ -1,7 +1,8 @@
 //! Costs of ranges over one tree.
 
+use crate::cut::cut;
 use crate::pass::{cost, Cost};
-use calls::{rcds_crossed, rcds_tree};
+use calls::rcds_crossed;
 use reference::rcds::ACCEPTED;
 use reference::settings::Settings;
 use reference::vectors::string;
@@ -26,23 +27,6 @@ pub struct Row {
     pub call: Cost,
     /// Cutting the same string.
     pub cutting: Cost,
-}
-
-/// The call that cuts, on slices.
-fn cut(settings: &Settings, string: &[u8], nodes: &mut [u8]) -> u64 {
-    // Both slices are there in full, and they do not overlap.
-    unsafe {
-        rcds_tree(
-            settings.window,
-            settings.fan_out,
-            settings.levels,
-            settings.nominal,
-            string.as_ptr(),
-            string.len(),
-            nodes.as_mut_ptr(),
-            nodes.len(),
-        )
-    }
 }
 
 /// The call that is measured, on slices.

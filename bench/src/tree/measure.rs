@@ -1,8 +1,8 @@
 //! Costs of one setting over all strings.
 
 use crate::clock::seconds;
+use crate::cut::cut;
 use crate::pass::call_and_pass;
-use calls::rcds_tree;
 use reference::settings::Settings;
 use std::hint::black_box;
 
@@ -24,23 +24,6 @@ pub struct Row {
     pub costs: Vec<Vec<Cost>>,
 }
 
-/// The call, on slices.
-fn tree(settings: &Settings, string: &[u8], nodes: &mut [u8]) -> u64 {
-    // Both slices are there in full, and they do not overlap.
-    unsafe {
-        rcds_tree(
-            settings.window,
-            settings.fan_out,
-            settings.levels,
-            settings.nominal,
-            string.as_ptr(),
-            string.len(),
-            nodes.as_mut_ptr(),
-            nodes.len(),
-        )
-    }
-}
-
 /// Measures one setting. The reference, if it is asked for, is run once over each of the longest strings.
 pub fn row(settings: &Settings, strings: &[Vec<Vec<u8>>], with_reference: bool) -> Row {
     let costs = |sizes: &Vec<Vec<u8>>| {
@@ -60,7 +43,7 @@ fn cost(settings: &Settings, string: &[u8], with_reference: bool) -> Cost {
     let mut answer = 0;
     let repetitions = (65_536 / string.len()).max(1);
     let (call, pass) = call_and_pass(repetitions, string, || {
-        answer = black_box(tree(settings, black_box(string), &mut nodes));
+        answer = black_box(cut(settings, black_box(string), &mut nodes));
     });
     let reference = with_reference.then(|| {
         let mut expected = vec![0; 65_536];

@@ -2,15 +2,16 @@
 use mathlib.Core.Bool.{Bool, true, false, cond, and-true, and-false}
 use mathlib.Core.List.{List, [], _∷_, _++_, append-assoc}
 use mathlib.Core.Path.{_≡_, refl, sym, ap, _∙_}
-use Prim.Native.Nat.{ℕ, suc, _+_, _*_, _-_, _/_, _≤_, _<_, max, min}
+use Prim.Native.Nat.{ℕ, _+_, _*_, _-_, _/_, _≤_, _<_, max, min}
 use native.Mathlib.Nat.{sub-zero}
 use native.Mathlib.Omega.{arith}
-use borrow.Author.Tests.{eq-eqb, ne-eqb, le-leb, lt-leb, lt-ltb, le-ltb}
+use borrow.Author.Tests.{le-leb, lt-leb, lt-ltb, le-ltb}
 use lib.ListN.{length, drop, length-append, take-append-drop}
 use Rattle.rows.specs.Rows.{bytesOf, storeOf, put, Stored}
 use Rattle.rows.proofs.Put.{length-bytes, length-put, put-put, store-two}
 use Rattle.node_table.specs.Entries.{idAt, parentAt, startAt, sizeAt, entryAt}
 use Rattle.node_table.specs.Nodes.{inside, entriesFrom, entriesIn}
+use Rattle.node_table.proofs.Nodes.{from-zero, from-past, from-here}
 use Rattle.tree.specs.Questions.{ask}
 use Rattle.crossing.specs.Crossing.{crosses, Crossing, crossingFrom, crossing, crossingBytes, crossingRefusal, crossingAnswer, crossingTable, Crossed}
 use Rattle.crossing.specs.Steps.{Noted}
@@ -35,32 +36,31 @@ module _ (nodes : List ℕ) (n start size : ℕ) where
   unfolding rest crossing entriesIn
   rest-all = rw (sub-zero (length nodes / 16))
 
-  rest-end : (k : ℕ) → length nodes / 16 ≤ k → rest nodes n start size k ≡ []
-  unfolding rest entriesFrom crossingFrom
-  rest-end k h = let z : length nodes / 16 - k ≡ 0 = omega arith in rw z
+  module _ (k : ℕ) where
+    rest-none : entriesFrom nodes (length nodes / 16 - k) k ≡ [] → rest nodes n start size k ≡ []
+    unfolding rest crossingFrom
+    rest-none e = rw e
 
-  module _ (k : ℕ) (h : k < length nodes / 16) where
-    left : length nodes / 16 - k ≡ suc (length nodes / 16 - (k + 1))
-    left = omega arith
+    rest-end : length nodes / 16 ≤ k → rest nodes n start size k ≡ []
+    rest-end h = rest-none (from-past nodes k h)
 
     rest-zero : idAt nodes k ≡ 0 → rest nodes n start size k ≡ []
-    unfolding rest entriesFrom crossingFrom
-    rest-zero z = rw (left, eq-eqb (idAt nodes k) 0 z)
+    rest-zero z = rest-none (from-zero nodes k z (length nodes / 16 - k))
 
-    rest-one : (idAt nodes k ≡ 0 → ⊥) → rest nodes n start size k
-        ≡ cond (crosses n start size (entryAt nodes k))
-        (record { node = k; parent = parentAt nodes k } ∷ rest nodes n start size (k + 1))
-        (rest nodes n start size (k + 1))
-    unfolding rest entriesFrom crossingFrom
-    rest-one some = rw (left, ne-eqb (idAt nodes k) 0 some) refl
+    module _ (some : idAt nodes k ≡ 0 → ⊥) where
+      rest-one : rest nodes n start size k
+          ≡ cond (crosses n start size (entryAt nodes k))
+          (record { node = k; parent = parentAt nodes k } ∷ rest nodes n start size (k + 1))
+          (rest nodes n start size (k + 1))
+      unfolding rest crossingFrom
+      rest-one = ap (crossingFrom n start size k) (from-here nodes k some)
 
-    rest-crossed : (idAt nodes k ≡ 0 → ⊥) → crosses n start size (entryAt nodes k) ≡ true
-        → rest nodes n start size k ≡ record { node = k; parent = parentAt nodes k } ∷ rest nodes n start size (k + 1)
-    rest-crossed some c = rest-one some ∙ rw c
+      rest-crossed : crosses n start size (entryAt nodes k) ≡ true
+          → rest nodes n start size k ≡ record { node = k; parent = parentAt nodes k } ∷ rest nodes n start size (k + 1)
+      rest-crossed c = rest-one ∙ rw c
 
-    rest-passed : (idAt nodes k ≡ 0 → ⊥) → crosses n start size (entryAt nodes k) ≡ false
-        → rest nodes n start size k ≡ rest nodes n start size (k + 1)
-    rest-passed some c = rest-one some ∙ rw c
+      rest-passed : crosses n start size (entryAt nodes k) ≡ false → rest nodes n start size k ≡ rest nodes n start size (k + 1)
+      rest-passed c = rest-one ∙ rw c
 
 -- So many are found before entry k.
 pub record Counting (nodes : List ℕ) (n start size k found : ℕ) : Type 0 where
@@ -84,21 +84,21 @@ module _ (nodes : List ℕ) (n start size : ℕ) where
 
     module _ (h : k < length nodes / 16) where
       pub count-zero : idAt nodes k ≡ 0 → found ≡ length (crossing n start size nodes)
-      count-zero z = none-left (rest-zero nodes n start size k h z)
+      count-zero z = none-left (rest-zero nodes n start size k z)
 
       module _ (some : idAt nodes k ≡ 0 → ⊥) where
         pub count-crossed : (r : ℕ) → r ≡ found + 1 → crosses n start size (entryAt nodes k) ≡ true → Counting nodes n start size (k + 1) r
         count-crossed r f e =
             let few = c .few in
             let all = c .all in
-            let more = ap length (rest-crossed nodes n start size k h some e) in
+            let more = ap length (rest-crossed nodes n start size k some e) in
             record { range = c .range; bound = omega arith; few = omega arith; all = omega arith }
 
         pub count-passed : (r : ℕ) → r ≡ found → crosses n start size (entryAt nodes k) ≡ false → Counting nodes n start size (k + 1) r
         count-passed r f e =
             let few = c .few in
             let all = c .all in
-            let same = ap length (rest-passed nodes n start size k h some e) in
+            let same = ap length (rest-passed nodes n start size k some e) in
             record { range = c .range; bound = omega arith; few = omega arith; all = omega arith }
 
 -- Entry k written as pair number `at`, or not.
@@ -200,7 +200,7 @@ module _ (nodes : List ℕ) (n start size : ℕ) (before : List ℕ) where
     module _ (h : k < length nodes / 16) where
       pub write-zero : idAt nodes k ≡ 0
           → now ≡ crossingBytes (crossing n start size nodes) ++ drop (16 * length (crossing n start size nodes)) before
-      write-zero z = none-to-write (rest-zero nodes n start size k h z)
+      write-zero z = none-to-write (rest-zero nodes n start size k z)
 
       pub write-next : (after : List ℕ) (r : ℕ) → (idAt nodes k ≡ 0 → ⊥) → Noted n start size nodes k now after at r
           → Writing nodes n start size before after (k + 1) r
@@ -209,7 +209,7 @@ module _ (nodes : List ℕ) (n start size : ℕ) (before : List ℕ) where
           turn : (b : Bool) → crosses n start size (entryAt nodes k) ≡ b → Writing nodes n start size before after (k + 1) r
           turn true c =
               let few = w .few in
-              let more = rest-crossed nodes n start size k h some c in
+              let more = rest-crossed nodes n start size k some c in
               let many = ap length more in
               let room = w .room in
               let next : r ≡ at + 1 = p .count ∙ rw c in
@@ -226,7 +226,7 @@ module _ (nodes : List ℕ) (n start size : ℕ) (before : List ℕ) where
               }
           turn false c =
               let few = w .few in
-              let same = rest-passed nodes n start size k h some c in
+              let same = rest-passed nodes n start size k some c in
               let next : r ≡ at = p .count ∙ rw c in
               let kept : after ≡ now = p .table ∙ rw c in
               record {

@@ -27,6 +27,26 @@ unfolding entriesBytes
 entries-append [] fs = refl
 entries-append (e ∷ es) fs = ap (λ (l : List ℕ). entryBytes e ++ l) (entries-append es fs) ∙ sym (append-assoc (entryBytes e) (entriesBytes es) (entriesBytes fs))
 
+-- The list from entry k on: none at an id 0 or past the table's end, else entry k and then the others.
+module _ (t : List ℕ) (k : ℕ) where
+  pub from-zero : idAt t k ≡ 0 → (left : ℕ) → entriesFrom t left k ≡ []
+  unfolding entriesFrom
+  from-zero z zero = refl
+  from-zero z (suc left) = rw (eq-eqb (idAt t k) 0 z)
+
+  pub from-past : length t / 16 ≤ k → entriesFrom t (length t / 16 - k) k ≡ []
+  from-past h = from-zero (sym (id-nowhere t k h)) (length t / 16 - k)
+
+  module _ (some : idAt t k ≡ 0 → ⊥) where
+    pub from-one : (left : ℕ) → entriesFrom t (suc left) k ≡ entryAt t k ∷ entriesFrom t left (k + 1)
+    unfolding entriesFrom
+    from-one left = rw (ne-eqb (idAt t k) 0 some)
+
+    pub from-here : entriesFrom t (length t / 16 - k) k ≡ entryAt t k ∷ entriesFrom t (length t / 16 - (k + 1)) (k + 1)
+    from-here =
+        let left : length t / 16 - k ≡ suc (length t / 16 - (k + 1)) = omega (arith, there t k some) in
+        ap (λ (n : ℕ). entriesFrom t n k) left ∙ from-one (length t / 16 - (k + 1))
+
 -- Entries that were written, and zeros after them, are read again.
 from-later : (e : Entry) → Fits e → (rest : List ℕ) (left k : ℕ) → entriesFrom (entryBytes e ++ rest) left (k + 1) ≡ entriesFrom rest left k
 unfolding entriesFrom
@@ -43,22 +63,16 @@ zero-id zeros k = rw (zero-rows zeros (k * 2)) (either (ltb k (length (replicate
     either true = refl
     either false = refl
 
-none-from : (zeros left : ℕ) → entriesFrom (replicate zeros 0) left 0 ≡ []
-unfolding entriesFrom
-none-from zeros zero = refl
-none-from zeros (suc left) = rw (eq-eqb (idAt (replicate zeros 0) 0) 0 (zero-id zeros 0))
-
 pub read-back : {es : List Entry} → Each Fits es → (zeros left : ℕ) → length es ≤ left → entriesFrom (entriesBytes es ++ replicate zeros 0) left 0 ≡ es
-unfolding entriesBytes entriesFrom
-read-back none zeros left h = none-from zeros left
+unfolding entriesBytes
+read-back none zeros left h = from-zero (replicate zeros 0) 0 (zero-id zeros 0) left
 read-back (both {n = e} {ns = es} p ps) zeros zero h = absurd (omega arith)
 read-back (both {n = e} {ns = es} p ps) zeros (suc left) h =
     let rest = entriesBytes es ++ replicate zeros 0 in
+    let here = entry-first e p rest in
+    let more = from-later e p rest left 0 ∙ read-back ps zeros left (omega arith) in
     ap (λ (t : List ℕ). entriesFrom t (suc left) 0) (append-assoc (entryBytes e) (entriesBytes es) (replicate zeros 0))
-    ∙ first (entryBytes e ++ rest) (ap (λ (x : Entry). x .id) (entry-first e p rest)) (entry-first e p rest) (from-later e p rest left 0 ∙ read-back ps zeros left (omega arith))
-  where
-    first : (t : List ℕ) → idAt t 0 ≡ e .id → entryAt t 0 ≡ e → entriesFrom t left 1 ≡ es → entriesFrom t (suc left) 0 ≡ e ∷ es
-    first t i x r = rw (ne-eqb (idAt t 0) 0 (λ z. p .some (sym i ∙ z))) (λ j. x j ∷ r j)
+    ∙ (from-one (entryBytes e ++ rest) 0 (λ z. p .some (sym (ap (λ (x : Entry). x .id) here) ∙ z)) left ∙ λ j. here j ∷ more j)
 
 -- Entry j of the list that begins with entry k.
 module _ (t : List ℕ) where
@@ -151,11 +165,7 @@ module _ (t : List ℕ) (test : Entry → Bool) where
   from-place = place-drop test (entriesIn t) ∙ listed-drop t place (place-within test (entriesIn t))
 
   pub not-found : idAt t place ≡ 0 → fromFirst test (entriesIn t) ≡ []
-  not-found z = from-place ∙ ended (length t / 16 - place)
-    where
-      ended : (left : ℕ) → entriesFrom t left place ≡ []
-      ended zero = unfold entriesFrom in refl
-      ended (suc left) = unfold entriesFrom in rw (eq-eqb (idAt t place) 0 z)
+  not-found z = from-place ∙ from-zero t place z (length t / 16 - place)
 
   module _ (some : idAt t place ≡ 0 → ⊥) where
     listed : place < length (entriesIn t)
@@ -169,10 +179,7 @@ module _ (t : List ℕ) (test : Entry → Bool) where
         ]
 
     pub found : fromFirst test (entriesIn t) ≡ entryAt t place ∷ entriesFrom t (length t / 16 - (place + 1)) (place + 1)
-    unfolding entriesFrom
-    found =
-        let left : length t / 16 - place ≡ suc (length t / 16 - (place + 1)) = omega (arith, there t place some) in
-        from-place ∙ rw (left, ne-eqb (idAt t place) 0 some)
+    found = from-place ∙ from-here t place some
 
     pub found-passes : test (entryAt t place) ≡ true
     found-passes = ap test (sym (listed-entry t place (entryAt t place) listed)) ∙ place-passes test (entriesIn t) (entryAt t place) listed

@@ -1,6 +1,6 @@
 -- Searching a table for the first listed entry that passes a test: the start, one turn, and each way out.
 use mathlib.Core.Bool.{Bool, true, false, _&&_, and-true, and-false}
-use mathlib.Core.List.{List}
+use mathlib.Core.List.{List, []}
 use mathlib.Core.Path.{_≡_, refl, sym, _∙_}
 use Prim.Native.Nat.{ℕ, suc, _+_, _-_, _/_, _≤_, _<_}
 use native.Mathlib.Nat.{sub-zero}
@@ -11,6 +11,8 @@ use lib.ListN.{length}
 use Rattle.node_table.specs.declared.Entry.{Entry}
 use Rattle.node_table.specs.Entries.{idAt, levelAt, entryAt}
 use Rattle.node_table.specs.Nodes.{entriesFrom, entriesIn, inside, placeOf, sought}
+use Rattle.node_table.proofs.Entries.{there}
+use Rattle.node_table.proofs.Nodes.{from-zero, from-past, from-here}
 
 -- One entry against what is sought.
 module _ (t : List ℕ) (n low high i k : ℕ) where
@@ -48,33 +50,27 @@ module _ (t : List ℕ) (test : Entry → Bool) where
       let whole : placeOf test (entriesIn t) ≡ placeOf test (entriesFrom t (length t / 16) 0) = refl in
       record { bound = omega arith; rest = rw (sub-zero (length t / 16)) (omega (arith, whole)) }
 
-  pub search-end : (k : ℕ) → length t / 16 ≤ k → Searching k → k ≡ placeOf test (entriesIn t)
-  unfolding placeOf entriesFrom
-  search-end k h s =
-      let none : length t / 16 - k ≡ 0 = omega arith in
-      let still : placeOf test (entriesIn t) ≡ k + 0 = rw none at (s .rest) in
-      omega (arith, still)
+  module _ (k : ℕ) (s : Searching k) where
+    none-left : entriesFrom t (length t / 16 - k) k ≡ [] → k ≡ placeOf test (entriesIn t)
+    unfolding placeOf
+    none-left e = let still : placeOf test (entriesIn t) ≡ k + 0 = rw e at (s .rest) in omega (arith, still)
 
-  module _ (k : ℕ) (h : k < length t / 16) (s : Searching k) where
-    left : length t / 16 - k ≡ suc (length t / 16 - (k + 1))
-    left = omega arith
+    pub search-end : length t / 16 ≤ k → k ≡ placeOf test (entriesIn t)
+    search-end h = none-left (from-past t k h)
 
     pub search-zero : idAt t k ≡ 0 → k ≡ placeOf test (entriesIn t)
-    unfolding placeOf entriesFrom
-    search-zero z =
-        let still : placeOf test (entriesIn t) ≡ k + 0 = rw (left, eq-eqb (idAt t k) 0 z) at (s .rest) in
-        omega (arith, still)
+    search-zero z = none-left (from-zero t k z (length t / 16 - k))
 
     module _ (some : idAt t k ≡ 0 → ⊥) where
       pub search-here : test (entryAt t k) ≡ true → k ≡ placeOf test (entriesIn t)
-      unfolding placeOf entriesFrom
+      unfolding placeOf
       search-here m =
-          let still : placeOf test (entriesIn t) ≡ k + 0 = rw (left, ne-eqb (idAt t k) 0 some, m) at (s .rest) in
+          let still : placeOf test (entriesIn t) ≡ k + 0 = rw (from-here t k some, m) at (s .rest) in
           omega (arith, still)
 
       pub search-next : test (entryAt t k) ≡ false → Searching (k + 1)
-      unfolding placeOf entriesFrom
+      unfolding placeOf
       search-next m =
           let still : placeOf test (entriesIn t) ≡ k + suc (placeOf test (entriesFrom t (length t / 16 - (k + 1)) (k + 1))) =
-          rw (left, ne-eqb (idAt t k) 0 some, m) at (s .rest) in
-          record { bound = omega arith; rest = omega (arith, still) }
+          rw (from-here t k some, m) at (s .rest) in
+          record { bound = omega (arith, there t k some); rest = omega (arith, still) }

@@ -12,6 +12,7 @@ use lib.Seq.{take-suc-set, append-snoc, length-take-le}
 use Rattle.node_table.specs.Entries.{idAt, levelAt, entryAt}
 use Rattle.node_table.specs.declared.Entry.{Entry}
 use Rattle.node_table.specs.Nodes.{inside, entriesFrom}
+use Rattle.node_table.proofs.Nodes.{from-past}
 use Rattle.protocol.specs.Sender.{childIds}
 use Rattle.reply.specs.Parts.{roleAt, Collected}
 
@@ -97,13 +98,10 @@ ended all nodes n l k count ids e c =
       many = λ h. absurd (omega arith);
     }
 
-nothing : (nodes : List ℕ) (n l k m : ℕ) → m ≡ 0 → childIds n l (entriesFrom nodes m k) ≡ []
-unfolding childIds entriesFrom
-nothing nodes n l k m e = rw e
-
 pub collect-end : (all nodes : List ℕ) (n l k count : ℕ) (ids : List ℕ) → length nodes / 16 ≤ k
     → Collecting all nodes n l k count ids → Collected all count ids
-collect-end all nodes n l k count ids h c = ended all nodes n l k count ids (nothing nodes n l k (length nodes / 16 - k) (omega arith)) c
+unfolding childIds
+collect-end all nodes n l k count ids h c = ended all nodes n l k count ids (rw (from-past nodes k h)) c
 
 module _ (all nodes : List ℕ) (n l k count : ℕ) (ids : List ℕ) (h : k < length nodes / 16) (c : Collecting all nodes n l k count ids)
     (role : ℕ) (is : role ≡ roleAt nodes n l k) where

@@ -4,11 +4,11 @@ use mathlib.Core.Path.{_≡_, refl, sym, ap, _∙_}
 use Prim.Native.Nat.{ℕ, zero, suc, _+_, _*_, _-_, _≤_, _<_}
 use native.Mathlib.Numerals.{add-one}
 use native.Mathlib.Omega.{arith}
-use borrow.Author.Tests.{eq-eqb, ne-eqb}
 use lib.ListN.{length, getD, take, replicate}
 use lib.Seq.{take-suc-set}
 use Rattle.node_table.specs.Entries.{idAt, levelAt}
 use Rattle.node_table.specs.Nodes.{entriesFrom}
+use Rattle.node_table.proofs.Nodes.{from-zero, from-one}
 use Rattle.entries.specs.declared.Entry.{Entry}
 use Rattle.entries.specs.Entries.{entry, tableOf, Put}
 use Rattle.entries.proofs.Entries.{length-table, put-length}
@@ -30,23 +30,14 @@ listedFrom t left k = map nodeAs (entriesFrom t left k)
 abbrev pairsFrom : List ℕ → ℕ → ℕ → List Entry
 pairsFrom t n k = map single (pairsAfter (firstNodes t k) (listedFrom t (n - k) k))
 
-listed-zero : (t : List ℕ) (left k : ℕ) → idAt t k ≡ 0 → listedFrom t left k ≡ []
-unfolding entriesFrom
-listed-zero t zero k e = refl
-listed-zero t (suc left) k e = rw (eq-eqb (idAt t k) 0 e)
-
-listed-one : (t : List ℕ) (left k : ℕ) → (idAt t k ≡ 0 → ⊥) → listedFrom t (suc left) k ≡ listed (levelAt t k) (idAt t k) ∷ listedFrom t left (k + 1)
-unfolding entriesFrom
-listed-one t left k n = rw (ne-eqb (idAt t k) 0 n)
-
 listed-more : (t : List ℕ) (n k : ℕ) → k < n → (idAt t k ≡ 0 → ⊥)
     → listedFrom t (n - k) k ≡ listed (levelAt t k) (idAt t k) ∷ listedFrom t (n - (k + 1)) (k + 1)
 listed-more t n k h some =
-    ap (λ (left : ℕ). listedFrom t left k) {x = n - k} {y = suc (n - (k + 1))} (omega arith) ∙ listed-one t (n - (k + 1)) k some
+    ap (λ (left : ℕ). listedFrom t left k) {x = n - k} {y = suc (n - (k + 1))} (omega arith) ∙ ap (map nodeAs) (from-one t k some (n - (k + 1)))
 
 pairs-zero : (t : List ℕ) (n k : ℕ) → idAt t k ≡ 0 → pairsFrom t n k ≡ []
 unfolding pairsAfter
-pairs-zero t n k e = rw (listed-zero t (n - k) k e)
+pairs-zero t n k e = rw (from-zero t k e (n - k))
 
 pairs-full : (t : List ℕ) (n k : ℕ) → n ≤ k → pairsFrom t n k ≡ []
 unfolding pairsAfter entriesFrom

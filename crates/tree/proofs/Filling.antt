@@ -1,7 +1,7 @@
 -- The nodes that name an entry as their parent fill it. A subtree that stands at entry `at` has all its nodes' parents, but its own root's, among
 -- its own entries, so that nothing outside names a node of it.
 use mathlib.Core.Bool.{Bool, true, false, cond, _&&_}
-use mathlib.Core.List.{List, [], _∷_, _++_, map, flatten, append-nil}
+use mathlib.Core.List.{List, [], _∷_, _++_, map, map-append, flatten, append-nil}
 use mathlib.Core.Path.{_≡_, refl, sym, ap, _∙_, subst}
 use Prim.Native.Nat.{ℕ, zero, suc, _+_, _-_, _≤_, _<_}
 use native.Mathlib.Nat.{zero-add}
@@ -19,7 +19,6 @@ use Rattle.tree.specs.Places.{Placed, placed, placedInTurn, placedTree, 
 use Rattle.tree.specs.Table.{entryOf}
 use Rattle.tree.specs.Filling.{naming, EndToEnd, done, next, ChildrenFill}
 use Rattle.tree.proofs.Tree.{children-join}
-use Rattle.tree.proofs.Wrote.{map-append}
 
 naming-append : (k l : ℕ) (ns ms : List Entry) → naming k l (ns ++ ms) ≡ naming k l ns ++ naming k l ms
 unfolding naming
@@ -188,7 +187,7 @@ in-turn-turn levels level f h parent start at place (b ∷ bs) =
     let S = h start at parent place b in
     let R = subst (λ (n : ℕ). Turn levels level parent (start + length b) (at + n) (place + 1) bs (map entryOf Q)) (sym (length-map P entryOf))
     (in-turn-turn levels level f h parent (start + length b) (at + length P) (place + 1) bs) in
-    subst (Turn levels level parent start at place (b ∷ bs)) (sym (map-append P Q))
+    subst (Turn levels level parent start at place (b ∷ bs)) (sym (map-append entryOf P Q))
     (record {
       fills = turn-fills levels level parent start at place b bs X _ S R;
       names = turn-names levels level parent start at place b bs X _ S R;

@@ -1,5 +1,5 @@
 -- Laws of places: without them the tree is the same, and a place is below 32.
-use mathlib.Core.List.{List, [], _∷_, _++_, map}
+use mathlib.Core.List.{List, [], _∷_, _++_, map, map-append}
 use mathlib.Core.Path.{_≡_, refl, sym, ap, ap₂, _∙_}
 use Prim.Native.Nat.{ℕ, zero, suc, _+_, _≤_, _<_}
 use native.Mathlib.Omega.{arith}
@@ -13,17 +13,13 @@ use Rattle.tree.proofs.Tree.{children-few, each-append}
 abbrev pub nodeOf : Placed → Node
 nodeOf p = p .node
 
-map-append : (ns ms : List Placed) → map nodeOf (ns ++ ms) ≡ map nodeOf ns ++ map nodeOf ms
-map-append [] ms = refl
-map-append (n ∷ ns) ms = ap (λ (l : List Node). n .node ∷ l) (map-append ns ms)
-
 in-turn-placed : (f : (start at parent place : ℕ) → List ℕ → List Placed) (g : ℕ → List ℕ → List Node)
     → ((start at parent place : ℕ) (b : List ℕ) → map nodeOf (f start at parent place b) ≡ g start b)
     → (parent start at place : ℕ) (bs : List (List ℕ)) → map nodeOf (placedInTurn f parent start at place bs) ≡ inTurn g start bs
 unfolding placedInTurn inTurn
 in-turn-placed f g h parent start at place [] = refl
 in-turn-placed f g h parent start at place (b ∷ bs) =
-    map-append (f start at parent place b) _ ∙ ap₂ _++_ (h start at parent place b) (in-turn-placed f g h parent (start + length b) _ (place + 1) bs)
+    map-append nodeOf (f start at parent place b) _ ∙ ap₂ _++_ (h start at parent place b) (in-turn-placed f g h parent (start + length b) _ (place + 1) bs)
 
 tree-placed : (σ : Settings) (left level start at parent place : ℕ) (bytes : List ℕ)
     → map nodeOf (placedTree σ left level start at parent place bytes) ≡ treeOf σ left level start bytes

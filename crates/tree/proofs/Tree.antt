@@ -1,6 +1,6 @@
 -- Laws of the tree: its first node, what it depends on, how many nodes it has, and that its nodes lie in the string.
 -- Each goes by induction on the levels left, with one lemma for the children in turn.
-use mathlib.Core.List.{List, [], _∷_, _++_, map, flatten}
+use mathlib.Core.List.{List, [], _∷_, _++_, map, map-append, flatten}
 use mathlib.Core.Path.{_≡_, refl, sym, ap, ap₂, _∙_}
 use Prim.Native.Nat.{ℕ, zero, suc, _+_, _≤_, _<_}
 use native.Mathlib.Nat.{not-suc-le-zero, le-of-suc-le-suc}
@@ -38,17 +38,13 @@ unfolding nodesOf
 root-first σ bytes d = first σ (σ .levels) 0 0 bytes d
 
 -- Levels and bytes do not depend on where a node starts: settings, level and bytes alone decide them.
-map-append : (ns ms : List Node) → map content (ns ++ ms) ≡ map content ns ++ map content ms
-map-append [] ms = refl
-map-append (n ∷ ns) ms = ap (λ (l : List Content). content n ∷ l) (map-append ns ms)
-
 in-turn-alike : (f : ℕ → List ℕ → List Node) → ((a b : ℕ) (bytes : List ℕ) → map content (f a bytes) ≡ map content (f b bytes))
     → (a b : ℕ) (bs : List (List ℕ)) → map content (inTurn f a bs) ≡ map content (inTurn f b bs)
 unfolding inTurn
 in-turn-alike f h a b [] = refl
 in-turn-alike f h a b (x ∷ bs) =
-    map-append (f a x) (inTurn f (a + length x) bs)
-    ∙ (ap₂ _++_ (h a b x) (in-turn-alike f h (a + length x) (b + length x) bs) ∙ sym (map-append (f b x) (inTurn f (b + length x) bs)))
+    map-append content (f a x) (inTurn f (a + length x) bs)
+    ∙ (ap₂ _++_ (h a b x) (in-turn-alike f h (a + length x) (b + length x) bs) ∙ sym (map-append content (f b x) (inTurn f (b + length x) bs)))
 
 pub contents-alike : (σ : Settings) (left level a b : ℕ) (bytes : List ℕ) → map content (treeOf σ left level a bytes) ≡ map content (treeOf σ left level b bytes)
 unfolding treeOf

@@ -1,6 +1,6 @@
 -- Laws of writing nodes one after the other: entries are 16 bytes, what is written twice in a row is written at once,
 -- and writing goes on until the table is full.
-use mathlib.Core.List.{List, [], _∷_, _++_, map, append-nil}
+use mathlib.Core.List.{List, [], _∷_, _++_, map, map-append, append-nil}
 use mathlib.Core.Path.{_≡_, refl, sym, ap, _∙_}
 use Prim.Native.Nat.{ℕ, _+_, _*_, _≤_, _<_}
 use native.Mathlib.Omega.{arith}
@@ -8,7 +8,6 @@ use native.Mathlib.Decide.{decLe}
 use lib.ListN.{length, length-append, length-map}
 use Rattle.rows.specs.Rows.{put}
 use Rattle.rows.proofs.Put.{put-put}
-use Rattle.node_table.specs.declared.Entry.{Entry}
 use Rattle.node_table.specs.Entries.{entryBytes, putOf}
 use Rattle.node_table.specs.Nodes.{entriesBytes}
 use Rattle.node_table.proofs.Entries.{put-room}
@@ -20,12 +19,8 @@ use Rattle.tree.specs.Wrote.{Wrote}
 pub length-nodes : (ns : List Placed) → length (entriesOf ns) ≡ length ns * 16
 length-nodes ns = length-entries (map entryOf ns) ∙ ap (λ (n : ℕ). n * 16) (length-map ns entryOf)
 
-pub map-append : (ns ms : List Placed) → map entryOf (ns ++ ms) ≡ map entryOf ns ++ map entryOf ms
-map-append [] ms = refl
-map-append (n ∷ ns) ms = ap (λ (l : List Entry). entryOf n ∷ l) (map-append ns ms)
-
 nodes-append : (ns ms : List Placed) → entriesOf (ns ++ ms) ≡ entriesOf ns ++ entriesOf ms
-nodes-append ns ms = ap entriesBytes (map-append ns ms) ∙ entries-append (map entryOf ns) (map entryOf ms)
+nodes-append ns ms = ap entriesBytes (map-append entryOf ns ms) ∙ entries-append (map entryOf ns) (map entryOf ms)
 
 pub wrote-entry : (before after : List ℕ) (u : ℕ) (n : Placed) → length before ≡ 65536 → u < 4096 → after ≡ putOf before u (entryOf n)
     → Wrote before after u (n ∷ []) (u + 1)

@@ -1,4 +1,4 @@
--- The tree of blocks and its table, as document 01 has them; `Bounds` and `Wrote` are words of the crate's own functions.
+-- The tree of blocks and its table, as documents 01 and 02 have them; `Bounds` and `Wrote` are words of the crate's own functions.
 pub mod Questions
 pub mod Tree
 pub mod Places

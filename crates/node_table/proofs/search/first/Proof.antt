@@ -23,7 +23,7 @@ node-id-requires c κs = search needs
 returns : tie.Need-returns Inv-loop μ-loop
 returns c =
     let turn = c .before .before in
-    search-zero _ _ _ (turn .loop-test .taken) (turn .before .loop .inv .1) (sym (c .before .node-id .ensures) ∙ c .if1 .taken)
+    search-zero _ _ _ (turn .before .loop .inv .1) (sym (c .before .node-id .ensures) ∙ c .if1 .taken)
 
 matches-requires : tie.Need-matches-requires Inv-loop μ-loop
 matches-requires c κs = search needs
@@ -31,7 +31,7 @@ matches-requires c κs = search needs
 returns-2 : tie.Need-returns-2 Inv-loop μ-loop
 returns-2 c =
     let turn = c .before .before .before .before in
-    search-here _ _ _ (turn .loop-test .taken) (turn .before .loop .inv .1)
+    search-here _ _ _ (turn .before .loop .inv .1)
     (λ z. c .before .before .if1 .left (c .before .before .before .node-id .ensures ∙ z)) (sym (c .before .matches .ensures) ∙ c .if2 .taken)
 
 add-k : tie.Need-add-k Inv-loop μ-loop
@@ -44,12 +44,12 @@ loop-again : tie.Need-loop-again Inv-loop μ-loop
 loop-again c =
     let turn = c .before .before .before .before in (
       turn .before .loop .inv .0,
-      search-next _ _ _ (turn .loop-test .taken) (turn .before .loop .inv .1)
+      search-next _ _ _ (turn .before .loop .inv .1)
           (λ z. c .before .before .if1 .left (c .before .before .before .node-id .ensures ∙ z)) (sym (c .before .matches .ensures) ∙ c .if2 .left),
     )
 
 returns-3 : tie.Need-returns-3 Inv-loop μ-loop
-returns-3 c = search-end _ _ _ (c .loop-test .left) (c .before .loop .inv .1)
+returns-3 c = search-end _ _ _ (c .before .loop .inv .1) (c .loop-test .left)
 
 pub first-spec : {M : Type 1} → statement M
 first-spec =
