@@ -43,7 +43,8 @@
  *      opening?
  *  10  message well formed: whole words, kinds, order, fixed bits, first part
  *      of a 64-bit value at most 255, cells as many as its q, reference counts
- *      1 to 32, no index twice, end right, nothing after it?
+ *      1 to 32, each reference's index above the one before it, end right,
+ *      nothing after it?
  *  11  sender: message is a query, type 1 or 2? Receiver: message is a reply,
  *      type 3 to 6, of this session, to the outstanding query: an opening, or a
  *      node reply of its level and id?
@@ -475,10 +476,11 @@ uint64_t rcds_sender_setup(uint64_t w, uint64_t p, uint64_t levels,
  * To an opening query the reply is the opening: settings, the string's length,
  * the id of the whole string, and the sketch's cells. To a node query it is a
  * composition (the children of the first node with that level and id, as
- * references to the shingle list and the number of their order), a literal (the
- * node's bytes: at the last level, or where that number is above
- * RCDS_MAX_TRAIL_NUMBER), or a none (there is no such node). The session is the
- * message's.
+ * references to the shingle list, rising by index, and the number of their
+ * order), a literal (the node's bytes: at the last level, or where that number is
+ * above RCDS_MAX_TRAIL_NUMBER), or a none (there is no such node). The session is
+ * the message's. To the same node query every sender that was set up over the
+ * same string with the same settings replies the same bytes.
  *
  * Asks 1 to 7, 10, 11, 20, in this order.
  *

@@ -14,7 +14,7 @@ use Rattle.shingle.specs.declared.Shingle.{Shingle}
 use Rattle.trail.specs.Trails.{total, orderOf}
 use Rattle.trail.proofs.Orders.{listed-length}
 use Rattle.message.specs.Words.{linkWords, Ref, referenceWord, isEnd}
-use Rattle.message.specs.Fields.{Every, one, head, number, value, many, manyFrom, manyAfter, distinct, textAfter}
+use Rattle.message.specs.Fields.{Every, one, head, number, value, many, manyFrom, manyAfter, rising, textAfter}
 use Rattle.message.specs.Messages.{Msg, composition, bodyOf, parseWords, parse}
 use Rattle.message.specs.Reading.{numbersAre, pairIs, openingAt}
 use Rattle.message.specs.Parts.{referencesIn}
@@ -53,7 +53,7 @@ module _ (ws : List ℕ) where
       (λ is p.
       found-fits m _
       (pairIs ws && (number .is (drop 5 ws)
-      && (distinct (manyFrom referenceWord (drop 6 ws)) && isEnd c (manyAfter referenceWord (drop 6 ws)))))
+      && (rising (manyFrom referenceWord (drop 6 ws)) && isEnd c (manyAfter referenceWord (drop 6 ws)))))
       (sym (composition-form ws c n) ∙ p) many-fits) λ e.
       picked (eqb t 5) _ _ e (λ is p. found-fits m _ (pairIs ws && isEnd c (textAfter (drop 5 ws))) (sym (literal-form ws c n) ∙ p) tt) λ e.
       picked (eqb t 6) _ _ e (λ is p. found-fits m _ (pairIs ws && isEnd c (drop 5 ws)) (sym (no-node-form ws c n) ∙ p) tt) λ e.

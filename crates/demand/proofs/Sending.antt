@@ -20,16 +20,17 @@ use Rattle.message.proofs.Messages.{parse-encode, encode-parse}
 use Rattle.protocol.specs.Lent.{Lent, lent, refusedBy}
 use Rattle.protocol.specs.Sender.{Written, writing, openingReply, replyTo, replying, hearing, reply}
 use Rattle.protocol.specs.Calls.{Every}
-use Rattle.protocol.specs.Genuine.{Accepted}
+use Rattle.protocol.specs.Genuine.{Accepted, Genuine}
 use Rattle.protocol.specs.Demand.{SetupAccepts, leftBySetup, Announces}
 use Rattle.protocol.proofs.Cases.{chosen, same-message}
 use Rattle.protocol.proofs.Own.{replies-genuine}
 use Rattle.protocol.proofs.Readable.{every-reply-valid}
 use Rattle.protocol.proofs.Announcing.{own-opening-announces}
+use Rattle.protocol.proofs.One.{one-composition}
 use Rattle.reply.specs.Reply.{Replied}
 use Rattle.sender.specs.State.{settingsIn, SenderSetUp}
 use Rattle.sender.proofs.Accepted.{settings-kept}
-use Rattle.demand.specs.Sending.{MessageOfCalls, OwnOpeningOfCalls, RepliesTo, GenuineOfCalls}
+use Rattle.demand.specs.Sending.{MessageOfCalls, OwnOpeningOfCalls, RepliesTo, GenuineOfCalls, OneCompositionOfCalls}
 
 -- A reply was written: to the query read, as the definition has it.
 record Wrote (σ : Settings) (m : Lent) (message : List ℕ) (w : Written) : Type 0 where
@@ -187,3 +188,11 @@ genuine-of-calls σ string nodes nodes′ shingles shingles′ cells cells′ st
     genuine σ string nodes nodes′ shingles shingles′ cells cells′ state state′ r made high bytes message _
     (said σ string nodes nodes′ shingles shingles′ cells cells′ state state′ r made high σ message buffer buffer′ k bytes-in
     (subst (λ (τ : Settings). Replied τ string nodes′ shingles′ cells′ message buffer buffer′ k) own replied) written)
+
+-- A reply is genuine for a receiver of the setup's own settings and string, under any number.
+own-genuine : (σ : Settings) (string query reply : List ℕ) → RepliesTo σ string query reply → (session : ℕ) → Genuine σ string session reply
+own-genuine σ string query reply replied session = record { query = replied .query; reply = replied .genuine σ string session (λ e. (refl, refl)) }
+
+pub one-composition-of-calls : OneCompositionOfCalls
+one-composition-of-calls σ string query query′ reply reply′ one other session l i x y refs refs′ read read′ =
+    one-composition σ string session reply reply′ (own-genuine σ string query reply one session) (own-genuine σ string query′ reply′ other session) l i x y refs refs′ read read′

@@ -7,7 +7,8 @@ use mathlib.Core.Path.{_≡_}
 use Prim.Native.Nat.{ℕ, _-_, _^_, _≤_, _<_}
 use lib.ListN.{take}
 use Rattle.tree.specs.declared.Settings.{Settings}
-use Rattle.message.specs.Messages.{Msg, openingQuery, parse}
+use Rattle.message.specs.Words.{Ref}
+use Rattle.message.specs.Messages.{Msg, openingQuery, composition, parse}
 use Rattle.message.specs.Fields.{Every as All}
 use Rattle.protocol.specs.Calls.{Every}
 use Rattle.protocol.specs.Genuine.{ServesOneString, GenuineReply}
@@ -50,3 +51,11 @@ GenuineOfCalls =
     → (message buffer buffer′ : List ℕ) (k : ℕ) → All (λ b. b < 256) message
     → Replied (settingsIn state′) string nodes′ shingles′ cells′ message buffer buffer′ k → 2 ^ 32 ≤ k
     → RepliesTo σ string message (take (k - 2 ^ 32) buffer′)
+
+-- Document 02, request 2: "a setup's node has at most one genuine composition a session". Two replies of setups with these settings over this string,
+-- as the calls write them, are the same bytes if both are compositions of one session, level and id.
+abbrev pub OneCompositionOfCalls : Type 0
+OneCompositionOfCalls =
+    (σ : Settings) (string query query′ reply reply′ : List ℕ) → RepliesTo σ string query reply → RepliesTo σ string query′ reply′
+    → (session l i x y : ℕ) (refs refs′ : List Ref) → parse reply ≡ some (composition session l i x refs)
+    → parse reply′ ≡ some (composition session l i y refs′) → reply ≡ reply′

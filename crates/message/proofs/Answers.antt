@@ -68,18 +68,18 @@ module _ (s : List ℕ) (n : ℕ) where
           record { message = sym (literal-form (linkWords s) (length (linkWords s)) n ∙ rw (p, texts .after, e, is-l, is-i)); placed = refl; counted = texts .count-is }
 
     module _ (x : number .is (drop 5 (linkWords s)) ≡ true) (sound : Bool) (end : ℕ) (refs : References (linkWords s) 6 sound end) where
-      pub composition-twice : sound ≡ false → ReadsBody s n 4 Bad
-      composition-twice o = bad 4 (composition-form (linkWords s) (length (linkWords s)) n ∙ rw (p, x, sym (refs .once) ∙ o))
+      pub composition-falls : sound ≡ false → ReadsBody s n 4 Bad
+      composition-falls o = bad 4 (composition-form (linkWords s) (length (linkWords s)) n ∙ rw (p, x, sym (refs .rises) ∙ o))
 
       pub composition-no-end : sound ≡ true → endsAt end ≡ false → ReadsBody s n 4 Bad
-      composition-no-end o e = bad 4 (composition-form (linkWords s) (length (linkWords s)) n ∙ rw (p, x, sym (refs .once) ∙ o, refs .after o, e))
+      composition-no-end o e = bad 4 (composition-form (linkWords s) (length (linkWords s)) n ∙ rw (p, x, sym (refs .rises) ∙ o, refs .after o, e))
 
       pub composition-read : (l i y : ℕ) → l ≡ number .of (drop 1 (linkWords s)) → i ≡ value .of (drop 2 (linkWords s))
           → y ≡ number .of (drop 5 (linkWords s)) → sound ≡ true → endsAt end ≡ true → ReadsBody s n 4 (Composition n l i y 6 (end - 6))
       composition-read l i y is-l is-i is-y o e =
           let c = refs .count o in
           record {
-            message = sym (composition-form (linkWords s) (length (linkWords s)) n ∙ rw (p, x, sym (refs .once) ∙ o, refs .after o, e, is-l, is-i, is-y));
+            message = sym (composition-form (linkWords s) (length (linkWords s)) n ∙ rw (p, x, sym (refs .rises) ∙ o, refs .after o, e, is-l, is-i, is-y));
             placed = refl;
             counted = omega arith;
           }

@@ -1,6 +1,6 @@
 -- Laws of fields: what is printed is read again, and what is read is printed again. Each field is lawful by itself, and `read-to` and `taken`
 -- make of that one link of a chain.
-use mathlib.Core.Bool.{Bool, true, false, cond, _&&_, _||_, false≢true}
+use mathlib.Core.Bool.{Bool, true, false, cond, _&&_, _||_, false≢true, and-false}
 use mathlib.Core.List.{List, [], _∷_, _++_, append-assoc}
 use mathlib.Core.Option.{Option, none, some}
 use mathlib.Core.Path.{_≡_, refl, sym, ap, _∙_}
@@ -10,7 +10,7 @@ use borrow.Author.Tests.{eqb-true, eq-eqb, ne-eqb, ltb-true, lt-ltb}
 use lib.Dec.{ltb, eqb, lit<}
 use lib.ListN.{length, getD, drop}
 use Rattle.message.specs.Words.{wordOf, kindOf, restOf, withKind, Word, plain, partWord, headWord, referenceWord, bytesWord, manyOf, topByte, middleByte, lowByte, carriesThree, carriesTwo, carriesOne}
-use Rattle.message.specs.Fields.{Field, read, one, number, head, partsTest, partsValue, value, valuesAre, valuesOf, valuesAfter, valuesTo, values, Every, manyFrom, manyAfter, manyTo, many, only, distinct, references, textFrom, textAfter, textTo, carries, text}
+use Rattle.message.specs.Fields.{Field, read, one, number, head, partsTest, partsValue, value, valuesAre, valuesOf, valuesAfter, valuesTo, values, Every, manyFrom, manyAfter, manyTo, many, only, rising, references, textFrom, textAfter, textTo, carries, text}
 use Rattle.message.proofs.Words.{Bytes, Small, every-append, and-left, and-right, and-both, kind-with, rest-with, with-rest, with-small, with-mod, rest-below, LawfulWord, plain-lawful, head-lawful, reference-lawful}
 
 pub record Lawful {A : Type 0} (F : Field A) : Type 0 where
@@ -355,8 +355,13 @@ module _ {A : Type 0} (test : A → Bool) (F : Field A) (L : Lawful F) where
         small-after = L .small-after;
       }
 
+  pub only-refused : {B : Type 0} (a : A) (ws : List ℕ) (next : A → List ℕ → Option B) → F .Fits a → F .Stops ws → test a ≡ false
+      → read (only test F) (only test F .to a ++ ws) next ≡ none
+  unfolding read only
+  only-refused a ws next f s e = rw (L .of-to a ws f s, e, and-false (F .is (F .to a ++ ws)))
+
 pub references-lawful : Lawful references
-references-lawful = only-lawful distinct (many referenceWord) (many-lawful referenceWord reference-lawful)
+references-lawful = only-lawful rising (many referenceWord) (many-lawful referenceWord reference-lawful)
 
 -- The bytes of a literal.
 pub record BytesWord (w many a b c : ℕ) : Type 0 where

@@ -1,19 +1,20 @@
--- The two laws of messages: a valid message written and read is the same message, and what is read and written again is the same bytes.
--- Each type is one chain of its fields in either direction.
+-- The laws of messages: a valid message written and read is the same message, what is read and written again is the same bytes, and a
+-- composition whose order falls is none. Each type is one chain of its fields in either direction.
 use mathlib.Core.Bool.{Bool, true, false, cond, _&&_, false≢true}
 use mathlib.Core.List.{List, [], _∷_, _++_}
 use mathlib.Core.Option.{Option, none, some}
 use mathlib.Core.Path.{_≡_, refl, sym, ap, _∙_, subst}
-use Prim.Native.Nat.{ℕ, _+_, _*_, _%_, _^_, _<_}
+use Prim.Native.Nat.{ℕ, _+_, _*_, _%_, _^_, _<_, _≤_}
 use native.Mathlib.Omega.{arith}
 use borrow.Author.Tests.{eqb-true, eq-eqb}
 use lib.Dec.{eqb, lit<}
 use lib.ListN.{length, length-append}
-use Rattle.message.specs.Words.{linkWords, linkBytes, kindOf, restOf, withKind, Head, headWord, referenceWord, endWord, isEnd, carriesThree, carriesTwo, carriesOne}
-use Rattle.message.specs.Fields.{Field, read, one, number, head, value, values, many, only, references, carries, text}
+use Rattle.message.specs.Words.{linkWords, linkBytes, kindOf, restOf, withKind, Head, headWord, Ref, referenceWord, endWord, isEnd, carriesThree, carriesTwo, carriesOne}
+use Rattle.message.specs.Fields.{Field, read, one, number, head, value, values, many, only, rising, references, carries, text}
 use Rattle.message.specs.Messages.{Msg, openingQuery, nodeQuery, opening, composition, literal, noNode, cellValues, headed, wordsThen, sizeOf, encodeWords, encode, finish, bodyOf, parseWords, parse, Parts, Valid}
-use Rattle.message.proofs.Words.{Bytes, Small, every-append, and-left, and-right, kind-with, rest-with, with-rest, with-small, rest-below, length-bytes, words-bytes, bytes-words, small-words}
-use Rattle.message.proofs.Fields.{Lawful, read-to, was-taken, taken, number-lawful, head-field-lawful, value-lawful, values-lawful, references-lawful, text-lawful}
+use Rattle.message.proofs.Words.{Bytes, Small, every-append, and-left, and-right, kind-with, rest-with, with-rest, with-small, rest-below, length-bytes, words-bytes, bytes-words, small-words, reference-lawful}
+use Rattle.message.proofs.Fields.{Lawful, read-to, was-taken, taken, number-lawful, head-field-lawful, value-lawful, values-lawful, many-lawful, only-refused, references-lawful, text-lawful}
+use Rattle.message.proofs.Rising.{falling}
 
 -- How long the words of a message are, whatever follows them.
 pub length-then : (m : Msg) (ws : List ℕ) → length (wordsThen m ws) ≡ length (wordsThen m []) + length ws
@@ -140,12 +141,35 @@ parse-encode-words : (m : Msg) → Valid m → parseWords (encodeWords m) ≡ so
 unfolding encodeWords
 parse-encode-words m v = parse-then m (sizeOf m) (v .parts) (v .size) (length-encode-words m)
 
+-- What is read of a message's bytes is read of its words.
+parse-of-words : (m : Msg) → parse (encode m) ≡ parseWords (encodeWords m)
+unfolding parse
+parse-of-words m =
+    let whole : length (encode m) % 4 ≡ 0 = ap (λ (n : ℕ). n % 4) (length-encode m) ∙ omega arith in
+    rw (eq-eqb _ 0 whole, words-encode m)
+
 -- A valid message written and then read is the same message.
 pub parse-encode : (m : Msg) → Valid m → parse (encode m) ≡ some m
-unfolding parse
-parse-encode m v =
-    let whole : length (encode m) % 4 ≡ 0 = ap (λ (n : ℕ). n % 4) (length-encode m) ∙ omega arith in
-    rw (eq-eqb _ 0 whole, words-encode m) (parse-encode-words m v)
+parse-encode m v = parse-of-words m ∙ parse-encode-words m v
+
+-- Document 02, request 2: "A sender of the old kind is met by number 10 when its order falls." A composition with its parts within their fields is
+-- read as no message if somewhere in it, next to it or later, a reference follows one of the same or a higher index.
+module _ (n l i x : ℕ) (session : n < 2 ^ 24) (level : number .Fits l) (id : value .Fits i) (trail : number .Fits x) where
+  unordered-words : (refs : List Ref) → many referenceWord .Fits refs → rising refs ≡ false → parseWords (encodeWords (composition n l i x refs)) ≡ none
+  unfolding encodeWords wordsThen bodyOf
+  unordered-words refs fits falls =
+      let m = composition n l i x refs in
+      let stops : many referenceWord .Stops (endWord (sizeOf m) ∷ []) = unfold only in end-stops-references (sizeOf m) in
+      headed-read 4 n (sizeOf m) _ (lit< tt) session (length-encode-words m)
+      ∙ (number-read l _ _ level
+      ∙ (value-read i _ _ id
+      ∙ (number-read x _ _ trail
+      ∙ only-refused rising (many referenceWord) (many-lawful referenceWord reference-lawful) refs _ _ fits stops falls)))
+
+  pub falling-refused : (front : List Ref) (high : Ref) (between : List Ref) (low : Ref) (back : List Ref)
+      → many referenceWord .Fits (front ++ (high ∷ between ++ (low ∷ back))) → low .index ≤ high .index
+      → parse (encode (composition n l i x (front ++ (high ∷ between ++ (low ∷ back))))) ≡ none
+  falling-refused front high between low back fits h = parse-of-words _ ∙ unordered-words _ fits (falling front high between low back h)
 
 -- Reading then printing, link by link.
 record Printed (m : Msg) (c : ℕ) (ws : List ℕ) : Type 0 where

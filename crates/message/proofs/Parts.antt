@@ -10,7 +10,7 @@ use lib.Dec.{eqb}
 use lib.ListN.{length, getD, set, take, drop, length-take, length-drop, drop-of-length-le, List·getD-eq-default}
 use lib.Seq.{take-all, take-take, take-length, getD-take, getD-drop, paste, paste-zero, paste-suc}
 use Rattle.message.specs.Words.{Word, Ref, wordOf, linkWords, restOf, referenceWord, topByte, middleByte, lowByte, carriesThree, carriesTwo, carriesOne, isEnd}
-use Rattle.message.specs.Fields.{one, head, number, value, valuesOf, manyFrom, manyAfter, distinct, textFrom, textAfter}
+use Rattle.message.specs.Fields.{one, head, number, value, valuesOf, manyFrom, manyAfter, rising, textFrom, textAfter}
 use Rattle.message.specs.Messages.{Msg, openingQuery, nodeQuery, composition, literal, noNode, cellValues, bodyOf, parseWords, parse}
 use Rattle.message.specs.Reading.{numbersAre, pairIs, openingAt}
 use Rattle.message.specs.Parts.{cellsIn, referencesIn, bytesIn, CellRead, ReferenceRead, threeEach, fronted, Copied}
@@ -61,7 +61,7 @@ module _ (ws : List ℕ) where
       picked (eqb t 1) _ _ e (λ is p. found-placed m _ (isEnd c (drop 1 ws)) (sym (opening-query-form ws c n) ∙ p) (query-placed n)) λ e.
       picked (eqb t 2) _ _ e (λ is p. found-placed m _ (pairIs ws && isEnd c (drop 5 ws)) (sym (node-query-form ws c n) ∙ p) (node-placed n (number .of (drop 1 ws)) (value .of (drop 2 ws)))) λ e.
       picked (eqb t 3) _ _ e (λ is p. found-placed m _ (numbersAre ws 1 7 && (value .is (drop 8 ws) && cellsEnd ws c n)) (sym (opening-form ws c n) ∙ p) (opening-placed n)) λ e.
-      picked (eqb t 4) _ _ e (λ is p. found-placed m _ (pairIs ws && (number .is (drop 5 ws) && (distinct (manyFrom referenceWord (drop 6 ws)) && isEnd c (manyAfter referenceWord (drop 6 ws))))) (sym (composition-form ws c n) ∙ p) (composition-placed n (number .of (drop 1 ws)) (value .of (drop 2 ws)) (number .of (drop 5 ws)))) λ e.
+      picked (eqb t 4) _ _ e (λ is p. found-placed m _ (pairIs ws && (number .is (drop 5 ws) && (rising (manyFrom referenceWord (drop 6 ws)) && isEnd c (manyAfter referenceWord (drop 6 ws))))) (sym (composition-form ws c n) ∙ p) (composition-placed n (number .of (drop 1 ws)) (value .of (drop 2 ws)) (number .of (drop 5 ws)))) λ e.
       picked (eqb t 5) _ _ e (λ is p. found-placed m _ (pairIs ws && isEnd c (textAfter (drop 5 ws))) (sym (literal-form ws c n) ∙ p) (literal-placed n (number .of (drop 1 ws)) (value .of (drop 2 ws)))) λ e.
       picked (eqb t 6) _ _ e (λ is p. found-placed m _ (pairIs ws && isEnd c (drop 5 ws)) (sym (no-node-form ws c n) ∙ p) (no-node-placed n (number .of (drop 1 ws)) (value .of (drop 2 ws)))) λ e.
       absurd (none-is-none e)

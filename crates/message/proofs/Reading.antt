@@ -1,23 +1,22 @@
 -- Laws of reading by place: each field of a message stands at a known word, so a chain of fields is a row of tests on words, with the values by place.
-use mathlib.Core.Bool.{Bool, true, false, cond, not, _&&_, _||_, false≢true}
+use mathlib.Core.Bool.{Bool, true, false, cond, _&&_, false≢true, and-assoc}
 use mathlib.Core.List.{List, [], _∷_}
 use mathlib.Core.Option.{Option, none, some}
 use mathlib.Core.Path.{_≡_, refl, sym, ap, _∙_}
 use Prim.Native.Nat.{ℕ, zero, suc, _+_, _*_, _-_, _/_, _<_, _≤_}
 use native.Mathlib.Nat.{add-zero}
-use native.Mathlib.Decide.{ℕ-discrete}
 use native.Mathlib.Numerals.{add-one}
 use native.Mathlib.Omega.{arith}
-use borrow.Author.Tests.{eq-eqb, ne-eqb}
-use lib.Dec.{eqb}
-use lib.ListN.{length, getD, set, drop, replicate, length-drop, length-set, length-replicate, drop-of-length-le, List·getD-eq-default}
-use lib.Seq.{getD-drop, drop-drop, drop-cons, getD-set-same, getD-set-other}
+use borrow.Author.Tests.{le-leb, lt-leb}
+use lib.Dec.{leb, eqb}
+use lib.ListN.{length, getD, drop, length-drop, drop-of-length-le, List·getD-eq-default}
+use lib.Seq.{getD-drop, drop-drop, drop-cons}
 use Rattle.message.specs.Words.{Word, Ref, linkWords, kindOf, restOf, plain, referenceWord, carriesThree, carriesTwo, carriesOne, isEnd}
-use Rattle.message.specs.Fields.{Field, read, one, number, partsTest, partsValue, value, valuesAre, valuesOf, valuesAfter, values, Every, many, manyFrom, manyAfter, only, references, stands, distinct, text, textFrom, textAfter}
+use Rattle.message.specs.Fields.{Field, read, one, number, partsTest, partsValue, value, valuesAre, valuesOf, valuesAfter, values, many, manyFrom, manyAfter, only, references, rising, text, textFrom, textAfter}
 use Rattle.message.specs.Reading.{numbersAre, References, Threes, Texts, pairIs, openingAt}
 use Rattle.message.specs.Messages.{Msg, openingQuery, nodeQuery, composition, literal, noNode, cellValues, finish, bodyOf}
-use Rattle.message.proofs.Words.{length-words, reference-lawful}
-use Rattle.message.proofs.Fields.{many-lawful}
+use Rattle.message.proofs.Words.{length-words}
+use Rattle.message.proofs.Rising.{risingFrom, rising-from-zero}
 
 pub head-drop : (ws : List ℕ) (k : ℕ) → getD (drop k ws) 0 0 ≡ getD ws k 0
 head-drop ws k = getD-drop k ws 0 0 ∙ ap (λ (n : ℕ). getD ws n 0) (add-zero k)
@@ -132,146 +131,53 @@ module _ {A : Type 0} (W : Word A) (ws : List ℕ) (k : ℕ) where
   unfolding manyAfter
   many-after-out h = rw (drop-of-length-le ws {i = k} h)
 
--- "No index twice" by marks: each index is unmarked when it is met, and then marked.
-pub fresh : List ℕ → List Ref → Bool
-fresh marks [] = true
-fresh marks (r ∷ rs) = eqb (getD marks (r .index) 0) 0 && fresh (set marks (r .index) 1) rs
-
-clear : List ℕ → List Ref → Bool
-clear marks [] = true
-clear marks (r ∷ rs) = eqb (getD marks (r .index) 0) 0 && clear marks rs
-
-pub and-assoc : (a b c : Bool) → ((a && b) && c) ≡ (a && (b && c))
-and-assoc true b c = refl
-and-assoc false b c = refl
-
-regroup : (a b c d : Bool) → (a && (b && (c && d))) ≡ ((c && b) && (a && d))
-regroup true true true d = refl
-regroup true true false d = refl
-regroup true false true d = refl
-regroup true false false d = refl
-regroup false true true d = refl
-regroup false true false d = refl
-regroup false false true d = refl
-regroup false false false d = refl
-
-swap-and : (a b c : Bool) → (a && (b && c)) ≡ (b && (a && c))
-swap-and true b c = refl
-swap-and false true c = refl
-swap-and false false c = refl
-
-not-or : (a b c : Bool) → (not (a || b) && c) ≡ (not a && (not b && c))
-not-or true b c = refl
-not-or false b c = refl
-
-mark-test : (marks : List ℕ) (i j : ℕ) → i < length marks → eqb (getD (set marks i 1) j 0) 0 ≡ (not (eqb j i) && eqb (getD marks j 0) 0)
-mark-test marks i j h =
-    elim (ℕ-discrete j i) [
-      | yes e ↦ rw (eq-eqb j i e, e, getD-set-same marks i 1 0 h)
-      | no n ↦ rw (ne-eqb j i n, getD-set-other marks i j 1 0 n)
-    ]
-
-clear-set : (marks : List ℕ) (i : ℕ) (rs : List Ref) → i < length marks → clear (set marks i 1) rs ≡ (not (stands i rs) && clear marks rs)
-unfolding clear stands
-clear-set marks i [] h = refl
-clear-set marks i (r ∷ rs) h =
-    rw (mark-test marks i (r .index) h, clear-set marks i rs h)
-    (and-assoc (not (eqb (r .index) i)) (eqb (getD marks (r .index) 0) 0) (not (stands i rs) && clear marks rs)
-    ∙ (ap (λ (b : Bool). not (eqb (r .index) i) && b) (swap-and (eqb (getD marks (r .index) 0) 0) (not (stands i rs)) (clear marks rs))
-    ∙ sym (not-or (eqb (r .index) i) (stands i rs) (eqb (getD marks (r .index) 0) 0 && clear marks rs))))
-
-fresh-is : (marks : List ℕ) (rs : List Ref) → Every (λ (r : Ref). r .index < length marks) rs → fresh marks rs ≡ (distinct rs && clear marks rs)
-unfolding fresh clear distinct
-fresh-is marks [] h = refl
-fresh-is marks (r ∷ rs) h =
-    rw (fresh-is (set marks (r .index) 1) rs (rw (length-set marks (r .index) 1) (h .1)), clear-set marks (r .index) rs (h .0))
-    (regroup (eqb (getD marks (r .index) 0) 0) (distinct rs) (not (stands (r .index) rs)) (clear marks rs))
-
-zeros : (n i : ℕ) → _≡_ {A = ℕ} (getD (replicate n 0) i 0) 0
-zeros zero i = refl
-zeros (suc n) zero = refl
-zeros (suc n) (suc i) = zeros n i
-
-clear-zeros : (n : ℕ) (rs : List Ref) → clear (replicate n 0) rs ≡ true
-unfolding clear
-clear-zeros n [] = refl
-clear-zeros n (r ∷ rs) = rw (zeros n (r .index)) (clear-zeros n rs)
-
-pub index-below : (w x : ℕ) → true ≡ referenceWord .is w → x ≡ restOf w → x / 64 < 4096
-unfolding referenceWord
-index-below w x e ex = rw ex (reference-lawful .fits w (sym e) .0)
-
-every-index : (marks : List ℕ) → length marks ≡ 4096 → (rs : List Ref) → Every (referenceWord .Fits) rs → Every (λ (r : Ref). r .index < length marks) rs
-unfolding referenceWord
-every-index marks e [] f = tt
-every-index marks e (r ∷ rs) f = let h = f .0 .0 in (omega arith, every-index marks e rs (f .1))
-
-many-fits : (ws : List ℕ) → Every (referenceWord .Fits) (manyFrom referenceWord ws)
-unfolding many
-many-fits ws = many-lawful referenceWord reference-lawful .fits ws refl
-
--- The run of references up to place k: what is still to come decides.
-pub record Marking (ws : List ℕ) (at k : ℕ) (marks : List ℕ) : Type 0 where
-  pub long : length marks ≡ 4096
-  pub once : distinct (manyFrom referenceWord (drop at ws)) ≡ fresh marks (manyFrom referenceWord (drop k ws))
+-- The run of references up to place k has risen, and goes on to rise if what is still to come does from index `least` on.
+pub record Risen (ws : List ℕ) (at k least : ℕ) : Type 0 where
+  pub rises : rising (manyFrom referenceWord (drop at ws)) ≡ risingFrom least (manyFrom referenceWord (drop k ws))
   pub count : at + length (manyFrom referenceWord (drop at ws)) ≡ k + length (manyFrom referenceWord (drop k ws))
   pub after : manyAfter referenceWord (drop at ws) ≡ manyAfter referenceWord (drop k ws)
 
-and-true : (b : Bool) → (b && true) ≡ b
-and-true true = refl
-and-true false = refl
+pub risen-none : (ws : List ℕ) (at : ℕ) → Risen ws at at 0
+risen-none ws at = record { rises = rising-from-zero (manyFrom referenceWord (drop at ws)); count = refl; after = refl }
 
-pub marking-none : (ws : List ℕ) (at : ℕ) → Marking ws at at (replicate 4096 0)
-marking-none ws at =
-    let refs = manyFrom referenceWord (drop at ws) in
-    let marks : List ℕ = replicate 4096 0 in
-    let long : length marks ≡ 4096 = length-replicate {A = ℕ} 4096 0 in
-    record {
-      long = long;
-      once = sym (fresh-is marks refs (every-index marks long refs (many-fits (drop at ws))) ∙ (ap (λ (b : Bool). distinct refs && b) (clear-zeros 4096 refs) ∙ and-true (distinct refs)));
-      count = refl;
-      after = refl;
-    }
-
-module _ (ws : List ℕ) (at k : ℕ) (marks : List ℕ) (m : Marking ws at k marks) where
+module _ (ws : List ℕ) (at k least : ℕ) (m : Risen ws at k least) where
   module _ (w : ℕ) (x : ℕ) (h : k < length ws) (here : w ≡ getD ws k 0) (e : true ≡ referenceWord .is w) (is : x ≡ restOf w) where
     met : manyFrom referenceWord (drop k ws) ≡ referenceWord .of w ∷ manyFrom referenceWord (drop (k + 1) ws)
     met = rw here (many-more referenceWord ws k h (rw (← here) (sym e)))
 
-    first-fresh : fresh marks (manyFrom referenceWord (drop k ws)) ≡ (eqb (getD marks (x / 64) 0) 0 && fresh (set marks (x / 64) 1) (manyFrom referenceWord (drop (k + 1) ws)))
-    unfolding fresh referenceWord
-    first-fresh = ap (fresh marks) met ∙ rw (← is)
+    first-met : risingFrom least (manyFrom referenceWord (drop k ws)) ≡ (leb least (x / 64) && risingFrom (suc (x / 64)) (manyFrom referenceWord (drop (k + 1) ws)))
+    unfolding risingFrom referenceWord
+    first-met = ap (risingFrom least) met ∙ rw (← is)
 
-    pub marking-more : getD marks (x / 64) 0 ≡ 0 → Marking ws at (k + 1) (set marks (x / 64) 1)
-    marking-more z =
+    pub risen-more : least ≤ x / 64 → Risen ws at (k + 1) (x / 64 + 1)
+    risen-more above =
         let n = m .count in
         let c = ap length met in
         record {
-          long = length-set marks _ 1 ∙ m .long;
-          once = m .once ∙ (first-fresh ∙ rw z);
+          rises = m .rises ∙ (first-met ∙ rw (le-leb least (x / 64) above, add-one (x / 64)));
           count = omega arith;
           after = m .after ∙ many-after-more referenceWord ws k h (rw (← here) (sym e));
         }
 
-    pub marking-twice : (getD marks (x / 64) 0 ≡ 0 → ⊥) → References ws at false k
-    marking-twice z =
-        let no : distinct (manyFrom referenceWord (drop at ws)) ≡ false = m .once ∙ (first-fresh ∙ rw (ne-eqb (getD marks (x / 64) 0) 0 z)) in
-        record { once = sym no; count = λ t. absurd (false≢true t); after = λ t. absurd (false≢true t) }
+    pub risen-falls : x / 64 < least → References ws at false k
+    risen-falls under =
+        let no : rising (manyFrom referenceWord (drop at ws)) ≡ false = m .rises ∙ (first-met ∙ rw (lt-leb least (x / 64) under)) in
+        record { rises = sym no; count = λ t. absurd (false≢true t); after = λ t. absurd (false≢true t) }
 
   ended : manyFrom referenceWord (drop k ws) ≡ [] → manyAfter referenceWord (drop k ws) ≡ drop k ws → References ws at true k
-  unfolding fresh
+  unfolding risingFrom
   ended over stop =
       let n = m .count in
       let z = ap length over in
-      record { once = sym (m .once ∙ rw over); count = λ t. omega arith; after = λ t. m .after ∙ stop }
+      record { rises = sym (m .rises ∙ rw over); count = λ t. omega arith; after = λ t. m .after ∙ stop }
 
-  pub marking-stop : (w : ℕ) → k < length ws → w ≡ getD ws k 0 → false ≡ referenceWord .is w → References ws at true k
-  marking-stop w h here e =
+  pub risen-stop : (w : ℕ) → k < length ws → w ≡ getD ws k 0 → false ≡ referenceWord .is w → References ws at true k
+  risen-stop w h here e =
       let no : referenceWord .is (getD ws k 0) ≡ false = rw (← here) (sym e) in
       ended (many-stop referenceWord ws k h no) (many-after-stop referenceWord ws k h no)
 
-  pub marking-out : length ws ≤ k → References ws at true k
-  marking-out h = ended (many-out referenceWord ws k h) (many-after-out referenceWord ws k h)
+  pub risen-out : length ws ≤ k → References ws at true k
+  risen-out h = ended (many-out referenceWord ws k h) (many-after-out referenceWord ws k h)
 
 -- The words of a literal.
 pub threes-none : (ws : List ℕ) (at : ℕ) → Threes ws at at
@@ -360,9 +266,9 @@ text-then ws next t y p = p
 
 references-then : {B : Type 0} (ws : List ℕ) (next : List Ref → List ℕ → Option B) (t : Bool) (y : B)
     → next (manyFrom referenceWord ws) (manyAfter referenceWord ws) ≡ cond t (some y) none
-    → read references ws next ≡ cond (distinct (manyFrom referenceWord ws) && t) (some y) none
+    → read references ws next ≡ cond (rising (manyFrom referenceWord ws) && t) (some y) none
 unfolding read only many
-references-then ws next t y p = both-conds (distinct (manyFrom referenceWord ws)) t _ y p
+references-then ws next t y p = both-conds (rising (manyFrom referenceWord ws)) t _ y p
 
 values-then : {B : Type 0} (n : ℕ) (ws : List ℕ) (k : ℕ) (next : List ℕ → List ℕ → Option B) (t : Bool) (y : B)
     → next (valuesOf n (drop k ws)) (drop (k + n * 3) ws) ≡ cond t (some y) none
@@ -421,12 +327,12 @@ module _ (ws : List ℕ) (c n : ℕ) where
       (text-then (drop 5 ws) _ (isEnd c (textAfter (drop 5 ws))) (literal n (number .of (drop 1 ws)) (value .of (drop 2 ws)) (textFrom (drop 5 ws))) refl)
 
   pub composition-form : bodyOf c n 4 (drop 1 ws)
-      ≡ cond (pairIs ws && (number .is (drop 5 ws) && (distinct (manyFrom referenceWord (drop 6 ws)) && isEnd c (manyAfter referenceWord (drop 6 ws)))))
+      ≡ cond (pairIs ws && (number .is (drop 5 ws) && (rising (manyFrom referenceWord (drop 6 ws)) && isEnd c (manyAfter referenceWord (drop 6 ws)))))
       (some (composition n (number .of (drop 1 ws)) (value .of (drop 2 ws)) (number .of (drop 5 ws)) (manyFrom referenceWord (drop 6 ws)))) none
   unfolding bodyOf finish
   composition-form =
-      pair-then _ (number .is (drop 5 ws) && (distinct (manyFrom referenceWord (drop 6 ws)) && isEnd c (manyAfter referenceWord (drop 6 ws)))) _
-      (number-then ws 5 _ (distinct (manyFrom referenceWord (drop 6 ws)) && isEnd c (manyAfter referenceWord (drop 6 ws))) _
+      pair-then _ (number .is (drop 5 ws) && (rising (manyFrom referenceWord (drop 6 ws)) && isEnd c (manyAfter referenceWord (drop 6 ws)))) _
+      (number-then ws 5 _ (rising (manyFrom referenceWord (drop 6 ws)) && isEnd c (manyAfter referenceWord (drop 6 ws))) _
       (references-then (drop 6 ws) _ (isEnd c (manyAfter referenceWord (drop 6 ws))) _ refl))
 
   abbrev pub cellsEnd : Bool

@@ -1,11 +1,11 @@
 -- What stands between head and end is a chain of fields. A field reads the front of a row of words: a test, what it says, the words after it;
 -- and it is printed again. A message's form is then one line of fields, read and printed in the same order.
-use mathlib.Core.Bool.{Bool, true, false, cond, _&&_, _||_, not}
+use mathlib.Core.Bool.{Bool, true, false, cond, _&&_, _||_}
 use mathlib.Core.List.{List, [], _∷_, _++_}
 use mathlib.Core.Option.{Option, none}
 use mathlib.Core.Path.{_≡_}
 use Prim.Native.Nat.{ℕ, zero, suc, _+_, _*_, _/_, _%_, _^_, _<_}
-use lib.Dec.{ltb, eqb}
+use lib.Dec.{ltb}
 use lib.ListN.{length, getD, drop}
 use Rattle.message.specs.Words.{Word, numberWord, partWord, Head, headWord, Ref, referenceWord, bytesWord, topByte, middleByte, lowByte, carriesThree, carriesTwo, carriesOne}
 
@@ -127,18 +127,14 @@ only test F =
       Stops = F .Stops;
     }
 
--- Question 10: "no index twice".
-unfoldable pub stands : ℕ → List Ref → Bool
-stands i [] = false
-stands i (r ∷ rs) = eqb (r .index) i || stands i rs
+-- Document 02, request 2: "References now rise by index." Each index is below the next one, so that none stands twice.
+unfoldable pub rising : List Ref → Bool
+rising [] = true
+rising (r ∷ []) = true
+rising (r ∷ next ∷ refs) = ltb (r .index) (next .index) && rising (next ∷ refs)
 
-unfoldable pub distinct : List Ref → Bool
-distinct [] = true
-distinct (r ∷ rs) = not (stands (r .index) rs) && distinct rs
-
--- "references in any order, each index once"
 abbrev pub references : Field (List Ref)
-references = only distinct (many referenceWord)
+references = only rising (many referenceWord)
 
 -- The bytes of a literal. "Only the last such word may carry fewer than 3."
 unfoldable pub textFrom : List ℕ → List ℕ

@@ -1,5 +1,6 @@
 -- The six types of message, written and read. `parse` is question 10: "message well formed: whole words, kinds, order, fixed bits, first part of a
--- 64-bit value at most 255, cells as many as its q, reference counts 1 to 32, no index twice, end right".
+-- 64-bit value at most 255, cells as many as its q, reference counts 1 to 32, no index twice, end right". By document 02, request 2, the indexes
+-- also rise: "A sender of the old kind is met by number 10 when its order falls."
 use mathlib.Core.Bool.{cond}
 use mathlib.Core.List.{List, [], _∷_, _++_}
 use mathlib.Core.Option.{Option, none, some}
@@ -37,7 +38,8 @@ headed t n ws = head .to (record { type = t; session = n }) ++ ws
 
 -- The words of a message up to its end, and then `tail`. "Types, between head and end: 1 opening query, empty; 2 node query: level, id;
 -- 3 opening: rule (the number 1), w, p, L, M, q, string length, root id, cells in order with five values each; 4 composition: level, id,
--- trail number, references in any order, each index once; 5 literal: level, id, bytes; 6 none: level, id."
+-- trail number, references in any order, each index once; 5 literal: level, id, bytes; 6 none: level, id." The order is no longer any: document 02,
+-- request 2, "References now rise by index."
 unfoldable pub wordsThen : Msg → List ℕ → List ℕ
 wordsThen (openingQuery n) tail = headed 1 n tail
 wordsThen (nodeQuery n l i) tail = headed 2 n (number .to l ++ (value .to i ++ tail))

@@ -6,7 +6,7 @@ use mathlib.Core.Path.{_≡_}
 use Prim.Native.Nat.{ℕ, zero, suc, _+_, _*_, _-_, _^_, _≤_}
 use lib.ListN.{length, drop}
 use Rattle.message.specs.Words.{linkWords, referenceWord}
-use Rattle.message.specs.Fields.{number, value, valuesOf, manyFrom, manyAfter, distinct, textFrom, textAfter}
+use Rattle.message.specs.Fields.{number, value, valuesOf, manyFrom, manyAfter, rising, textFrom, textAfter}
 use Rattle.message.specs.Messages.{Msg, openingQuery, nodeQuery, opening, composition, literal, noNode, typeOf, cellValues, bodyOf, parse}
 use Rattle.message.specs.declared.Message.{Message}
 use Rattle.message.specs.declared.Message.the-variants.{Bad, OpeningQuery, NodeQuery, Opening, Composition, Literal, NoNode}
@@ -68,9 +68,9 @@ unfoldable pub numbersAre : List ℕ → (k count : ℕ) → Bool
 numbersAre ws k zero = true
 numbersAre ws k (suc count) = number .is (drop k ws) && numbersAre ws (k + 1) count
 
--- The references that follow each other from place `at` on end before place `end`; if no index stands among them twice.
+-- The references that follow each other from place `at` on end before place `end`, if they rise by index.
 pub record References (ws : List ℕ) (at : ℕ) (sound : Bool) (end : ℕ) : Type 0 where
-  pub once : sound ≡ distinct (manyFrom referenceWord (drop at ws))
+  pub rises : sound ≡ rising (manyFrom referenceWord (drop at ws))
   pub count : sound ≡ true → end ≡ at + length (manyFrom referenceWord (drop at ws))
   pub after : sound ≡ true → manyAfter referenceWord (drop at ws) ≡ drop end ws
 

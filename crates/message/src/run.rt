@@ -15,7 +15,7 @@ use crate::word::is_reference;
 use crate::word::load;
 use crate::word::rest;
 
-// Where a run of references ends, if no index stands in it twice.
+// Where a run of references ends, if it rises by index.
 pub struct Run {
     pub sound: bool,
     pub end: usize,
@@ -58,11 +58,11 @@ pub fn are_values(message: &[u8], at: usize, count: usize) -> bool
     true
 }
 
-// The run of references from word `at` on. The index of each is marked, and a marked one ends it.
+// The run of references from word `at` on. An index that is not above the one before it ends it.
 pub fn reference_run(message: &[u8], at: usize) -> Run
     ensures { λ r. ⌜ References (linkWords (now (message .entry))) at (r .sound) (r .end) ⌝ }
 {
-    let mut marks = [0u8; 4096];
+    let mut least: u64 = 0;
     let mut k = at;
     while k < message.len() / 4 {
         let w = load(message, k);
@@ -72,14 +72,14 @@ pub fn reference_run(message: &[u8], at: usize) -> Run
                 end: k,
             };
         }
-        let index = (rest(w) / 64) as usize;
-        if marks[index] != 0 {
+        let index = rest(w) / 64;
+        if index < least {
             return Run {
                 sound: false,
                 end: k,
             };
         }
-        marks[index] = 1;
+        least = index + 1;
         k += 1;
     }
     Run {

@@ -108,6 +108,7 @@ fn literals() {
 fn compositions() {
     let mut buffer = [170u8; 64];
     composition_case(0, &[0], &[1], &mut buffer);
+    composition_case(4095, &[0, 1, 7, 12, 4095], &[1, 31, 2, 3, 32], &mut buffer);
     composition_case(4095, &[4095, 0, 7, 12, 1], &[32, 1, 2, 3, 31], &mut buffer);
     composition_case(4096, &[], &[], &mut buffer);
     composition_case(1, &[3, 3], &[1, 1], &mut buffer);

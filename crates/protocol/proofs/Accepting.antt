@@ -17,7 +17,6 @@ use Rattle.tree.proofs.Questions.{granted}
 use Rattle.tree.proofs.Tree.{children-few}
 use Rattle.shingle.specs.declared.Shingle.{Shingle}
 use Rattle.shingle.specs.Table.{shinglesIn}
-use Rattle.sort.specs.Shell.{Same}
 use Rattle.sketch.specs.Cells.{cellsOf}
 use Rattle.sketch.specs.Opening.{takenOf, opensTo, newList}
 use Rattle.setup.specs.Tables.{shinglesOfString}
@@ -32,7 +31,7 @@ use Rattle.protocol.specs.Sender.{ruleNumber, composable, refsOf}
 use Rattle.single.specs.Peeling.{rowsIn}
 use Rattle.protocol.specs.Receiver.{peeledOf, openingRefusal, takeOpening, below, nodeRefusal, composes, children, takeNode, act, find, settle}
 use Rattle.single.specs.Peeling.{listTable}
-use Rattle.protocol.specs.Genuine.{blocksOf, Accepted, childrenIds, IsBlockReply, IsNodeReply, IsReply}
+use Rattle.protocol.specs.Genuine.{blocksOf, Accepted, childrenIds, blockReply, foundReply, IsReply}
 use Rattle.protocol.specs.Demand.{In, takenBetween}
 use Rattle.protocol.specs.Calls.{Every}
 use Rattle.protocol.proofs.Blocks.{block, childrenBlocks}
@@ -148,10 +147,12 @@ module _ (σ : Settings) (string own : List ℕ) (n : ℕ) (sender : Accepted σ
     unfolding act below going initial
     literal-accepted session l i = node-taken true (c .bytes) cs refl (bytes-fit σ string holding) (holding-built σ string holding)
 
-    module _ (deep : c .level < σ .levels) (small : trailNumber (childrenIds σ (c .level) (c .bytes)) ≤ 4095) (refs : List Ref)
-        (order : Same refs (refsOf (shinglesOfString σ string) (c .level + 1) (childrenIds σ (c .level) (c .bytes)))) where
+    module _ (deep : c .level < σ .levels) (small : trailNumber (childrenIds σ (c .level) (c .bytes)) ≤ 4095) where
       abbrev ids : List ℕ
       ids = childrenIds σ (c .level) (c .bytes)
+
+      abbrev refs : List Ref
+      refs = refsOf (shinglesOfString σ string) (c .level + 1) ids
 
       pile-room : length (map nameOf cs) + length ids ≤ 128
       unfolding childrenIds
@@ -168,30 +169,29 @@ module _ (σ : Settings) (string own : List ℕ) (n : ℕ) (sender : Accepted σ
           let after = holding-children σ string deep holding in
           let passes : composes σ (shinglesIn (m .shingles)) (c .level) (trailNumber ids) refs (length (map nameOf cs)) ≡ true =
           ap (λ (list : List Shingle). composes σ list (c .level) (trailNumber ids) refs (length (map nameOf cs))) (memory .listed)
-          ∙ composition-taken σ string c real deep refs order small (length (map nameOf cs)) pile-room in
+          ∙ composition-taken σ string c real deep small (length (map nameOf cs)) pile-room in
           let pile : children (shinglesIn (m .shingles)) (c .level) (trailNumber ids) refs ++ map nameOf cs ≡ map nameOf (childrenBlocks σ c ++ cs) =
           ap (λ (list : List Shingle). children list (c .level) (trailNumber ids) refs ++ map nameOf cs) (memory .listed)
-          ∙ (ap (λ (p : List Pending). p ++ map nameOf cs) (composition-children σ string c real deep refs order small) ∙ sym (names-children σ string c cs)) in
+          ∙ (ap (λ (p : List Pending). p ++ map nameOf cs) (composition-children σ string c real deep small) ∙ sym (names-children σ string c cs)) in
           let leaves : act s m (composition session (c .level) i (trailNumber ids) refs) ≡ takeNode s m _ [] (map nameOf (childrenBlocks σ c ++ cs)) = ap (takeNode s m _ []) pile in
           subst (Outcome σ string own n still) (sym leaves)
           (node-taken _ [] (childrenBlocks σ c ++ cs) passes (omega (arith, bytes-fit σ string holding))
           (subst (λ (b : List ℕ). Holding σ string (childrenBlocks σ c ++ cs) b (taken + 1)) (sym (append-nil built)) after))
 
-    block-accepted : (session : ℕ) (t : Bool) (x : Msg) → composable σ (c .level) (childrenIds σ (c .level) (c .bytes)) ≡ t
-        → IsBlockReply σ string session (c .level) (blockId (c .bytes)) (c .bytes) t x → Outcome σ string own n still (act s m x)
-    unfolding IsBlockReply composable
-    block-accepted session false x e r = rw r (literal-accepted session (c .level) (blockId (c .bytes)))
-    block-accepted session true x e r =
+    block-accepted : (session : ℕ) (t : Bool) → composable σ (c .level) (childrenIds σ (c .level) (c .bytes)) ≡ t
+        → Outcome σ string own n still (act s m (blockReply σ string session (c .level) (blockId (c .bytes)) (c .bytes) t))
+    unfolding blockReply composable
+    block-accepted session false e = literal-accepted session (c .level) (blockId (c .bytes))
+    block-accepted session true e =
         let ids = childrenIds σ (c .level) (c .bytes) in
         let deep = and-true (ltb (c .level) (σ .levels)) _ e in
         let some = and-true (ltb 0 (length ids)) _ (deep .1) in
         let few = and-true (ltb (length ids) 33) _ (some .1) in
         let numbered = and-true (nonzero ids) (ltb (trailNumber ids) 4096) (few .1) in
-        rw (r .is)
-        (composition-accepted (ltb-true _ _ (deep .0)) (let h = ltb-true (trailNumber ids) 4096 (numbered .1) in omega (arith, h)) (r .refs) (r .order) session (blockId (c .bytes)))
+        composition-accepted (ltb-true _ _ (deep .0)) (let h = ltb-true (trailNumber ids) 4096 (numbered .1) in omega (arith, h)) session (blockId (c .bytes))
 
     pub node-accepted : (session : ℕ) (x : Msg) → IsReply σ string (nodeQuery session (c .level) (blockId (c .bytes))) x → Outcome σ string own n still (act s m x)
-    unfolding IsReply IsNodeReply
+    unfolding IsReply foundReply
     node-accepted session x r =
-        block-accepted session (composable σ (c .level) (childrenIds σ (c .level) (c .bytes))) x refl
-        (rw (first-found c (blocksOf σ string) (λ d i e. apart d c i real e) real) at r)
+        rw (r, first-found c (blocksOf σ string) (λ d i e. apart d c i real e) real)
+        (block-accepted session (composable σ (c .level) (childrenIds σ (c .level) (c .bytes))) refl)

@@ -19,6 +19,7 @@ pub mod Valid
 pub mod Session
 pub mod Own
 pub mod Readable
+pub mod One
 pub mod Announcing
 pub mod Demand
 pub mod Progress

@@ -13,7 +13,7 @@ use Rattle.tree.specs.Questions.{within}
 use Rattle.message.specs.Messages.{Msg, openingQuery, nodeQuery, opening, composition, literal, noNode, typeOf}
 use Rattle.protocol.specs.Sender.{composable}
 use Rattle.protocol.specs.Receiver.{sessionOf, levelOf, idOf, fits}
-use Rattle.protocol.specs.Genuine.{childrenIds, blocksOf, firstOf, IsBlockReply, IsNodeReply, IsReply}
+use Rattle.protocol.specs.Genuine.{childrenIds, blocksOf, firstOf, blockReply, foundReply, IsReply}
 
 -- What a reply has of its query.
 record Answering (query m : Msg) : Type 0 where
@@ -23,24 +23,21 @@ record Answering (query m : Msg) : Type 0 where
   type : cond (eqb (typeOf query) 1) (eqb (typeOf m) 3) (within 4 6 (typeOf m)) ≡ true
 
 module _ (σ : Settings) (string : List ℕ) where
-  block-answering : (n l i : ℕ) (bytes : List ℕ) (t : Bool) (m : Msg) → IsBlockReply σ string n l i bytes t m → Answering (nodeQuery n l i) m
-  unfolding IsBlockReply sessionOf levelOf idOf typeOf
-  block-answering n l i bytes true m r =
-      subst (λ (x : Msg). Answering (nodeQuery n l i) x) (sym (r .is)) (record { session = refl; level = refl; id = refl; type = refl })
-  block-answering n l i bytes false m r =
-      subst (λ (x : Msg). Answering (nodeQuery n l i) x) (sym r) (record { session = refl; level = refl; id = refl; type = refl })
+  block-answering : (n l i : ℕ) (bytes : List ℕ) (t : Bool) → Answering (nodeQuery n l i) (blockReply σ string n l i bytes t)
+  unfolding blockReply sessionOf levelOf idOf typeOf
+  block-answering n l i bytes true = record { session = refl; level = refl; id = refl; type = refl }
+  block-answering n l i bytes false = record { session = refl; level = refl; id = refl; type = refl }
 
-  node-answering : (n l i : ℕ) (o : Option (List ℕ)) (m : Msg) → IsNodeReply σ string n l i o m → Answering (nodeQuery n l i) m
-  unfolding IsNodeReply sessionOf levelOf idOf typeOf
-  node-answering n l i none m r =
-      subst (λ (x : Msg). Answering (nodeQuery n l i) x) (sym r) (record { session = refl; level = refl; id = refl; type = refl })
-  node-answering n l i (some bytes) m r = block-answering n l i bytes (composable σ l (childrenIds σ l bytes)) m r
+  found-answering : (n l i : ℕ) (o : Option (List ℕ)) → Answering (nodeQuery n l i) (foundReply σ string n l i o)
+  unfolding foundReply sessionOf levelOf idOf typeOf
+  found-answering n l i none = record { session = refl; level = refl; id = refl; type = refl }
+  found-answering n l i (some bytes) = block-answering n l i bytes (composable σ l (childrenIds σ l bytes))
 
   answering : (query m : Msg) → IsReply σ string query m → Answering query m
   unfolding IsReply sessionOf levelOf idOf typeOf
   answering (openingQuery n) m r =
       subst (λ (x : Msg). Answering (openingQuery n) x) (sym r) (record { session = refl; level = refl; id = refl; type = refl })
-  answering (nodeQuery n l i) m r = node-answering n l i (firstOf l i (blocksOf σ string)) m r
+  answering (nodeQuery n l i) m r = subst (Answering (nodeQuery n l i)) (sym r) (found-answering n l i (firstOf l i (blocksOf σ string)))
   answering (opening n rule w p L M q size root cells) m r = absurd r
   answering (composition n l i x refs) m r = absurd r
   answering (literal n l i bytes) m r = absurd r

@@ -22,7 +22,6 @@ use Rattle.tree.proofs.Reading.{tree-listed}
 use Rattle.shingle.specs.declared.Shingle.{Shingle}
 use Rattle.shingle.proofs.PairOrder.{and-true}
 use Rattle.shingle.proofs.Rising.{shingles-rise}
-use Rattle.sort.specs.Shell.{total}
 use Rattle.setup.specs.Tables.{shinglesOfString}
 use Rattle.setup.proofs.Sizes.{few-shingles}
 use Rattle.setup.proofs.Accepted.{first-id}
@@ -33,10 +32,11 @@ use Rattle.protocol.specs.Lent.{Lent}
 use Rattle.node_table.specs.Nodes.{inside, entriesIn, fromFirst}
 use Rattle.protocol.specs.Nodes.{blockIn}
 use Rattle.protocol.specs.Sender.{ruleNumber, childIds, composable, refsOf, referable, nodeReply, openingReply, replyTo}
-use Rattle.protocol.specs.Genuine.{blocksOf, childrenIds, firstOf, IsBlockReply, IsNodeReply, IsReply}
+use Rattle.protocol.specs.Genuine.{blocksOf, childrenIds, firstOf, blockReply, foundReply, IsReply}
 use Rattle.protocol.specs.Demand.{SetupAccepts, leftBySetup}
 use Rattle.protocol.proofs.Memory.{few, made, nodes-is, accepted, cells-again, list-again}
 use Rattle.protocol.proofs.Cases.{same-message, no-message}
+use Rattle.protocol.proofs.Valid.{few-children}
 use Rattle.protocol.proofs.Referable.{rising-referable}
 
 -- The ids one level down, before the next node that is not deeper.
@@ -206,44 +206,31 @@ module _ (σ : Settings) (string : List ℕ) (n l i : ℕ) (listed : length (shi
     deep-enough a e = ltb-true l (σ .levels) (and-true (ltb l (σ .levels)) _ e .0)
 
     block-reply : (t : Bool) → composable σ l ids ≡ t
-        → IsBlockReply σ string n l i (x .node .bytes) t (cond t (composition n l i (trailNumber ids) (refsOf list (l + 1) ids)) (literal n l i (blockIn string (entryOf x))))
-    unfolding IsBlockReply blockIn
-    block-reply true e =
-        let same = ids-are (deep-enough ids e) in
-        record {
-          refs = refsOf list (l + 1) ids;
-          order = record { same = λ f. ap (λ (c : List ℕ). total f (refsOf list (l + 1) c)) same };
-          is = ap (λ (c : List ℕ). composition n l i (trailNumber c) (refsOf list (l + 1) ids)) same;
-        }
+        → cond t (composition n l i (trailNumber ids) (refsOf list (l + 1) ids)) (literal n l i (blockIn string (entryOf x))) ≡ blockReply σ string n l i (x .node .bytes) t
+    unfolding blockReply blockIn
+    block-reply true e = ap (λ (c : List ℕ). composition n l i (trailNumber c) (refsOf list (l + 1) c)) (ids-are (deep-enough ids e))
     block-reply false e = ap (literal n l i) (within .same)
-
-    few-ids : (a : List ℕ) → composable σ l a ≡ true → length a ≤ 32
-    unfolding composable
-    few-ids a e =
-        let some = and-true (ltb l (σ .levels)) _ e .1 in
-        let few = ltb-true (length a) 33 (and-true (ltb (length a) 33) _ (and-true (ltb 0 (length a)) _ some .1) .0) in
-        omega (arith, few)
 
     few-referred : (composable σ l ids && referable list (l + 1) ids) ≡ composable σ l ids
     few-referred = go (composable σ l ids) refl
       where
         go : (t : Bool) → composable σ l ids ≡ t → (t && referable list (l + 1) ids) ≡ t
-        go true e = rising-referable list (l + 1) ids (unfold shinglesOfString in shingles-rise _) listed (few-ids ids e)
+        go true e = rising-referable list (l + 1) ids (unfold shinglesOfString in shingles-rise _) listed (few-children σ l ids e)
         go false e = refl
 
-    first-reply : IsNodeReply σ string n l i (some (x .node .bytes)) (nodeReply σ string list n l i (map entryOf (x ∷ ns)))
-    unfolding IsNodeReply nodeReply
+    first-reply : nodeReply σ string list n l i (map entryOf (x ∷ ns)) ≡ foundReply σ string n l i (some (x .node .bytes))
+    unfolding foundReply nodeReply
     first-reply = rw (few-referred, sym (shallow-only ids (childrenIds σ l (x .node .bytes)) ids-are)) (block-reply (composable σ l ids) refl)
 
   nodes-reply : (ns : List Placed) → Tidy σ (map nodeOf ns) → Inside string (map nodeOf ns)
-      → IsNodeReply σ string n l i (firstOf l i (map content (map nodeOf ns))) (nodeReply σ string list n l i (map entryOf (fromNode l i ns)))
+      → nodeReply σ string list n l i (map entryOf (fromNode l i ns)) ≡ foundReply σ string n l i (firstOf l i (map content (map nodeOf ns)))
   unfolding firstOf fromNode Tidy
-  nodes-reply [] tidy none-within = unfold IsNodeReply nodeReply in refl
+  nodes-reply [] tidy none-within = unfold foundReply nodeReply in refl
   nodes-reply (x ∷ ns) tidy (both-within w ws) = go (eqb (x .node .level) l && eqb (blockId (x .node .bytes)) i) refl (nodes-reply ns (tidy .1) ws)
     where
       go : (t : Bool) → (eqb (x .node .level) l && eqb (blockId (x .node .bytes)) i) ≡ t
-          → IsNodeReply σ string n l i (firstOf l i (map content (map nodeOf ns))) (nodeReply σ string list n l i (map entryOf (fromNode l i ns)))
-          → IsNodeReply σ string n l i (cond t (some (x .node .bytes)) (firstOf l i (map content (map nodeOf ns)))) (nodeReply σ string list n l i (map entryOf (cond t (x ∷ ns) (fromNode l i ns))))
+          → nodeReply σ string list n l i (map entryOf (fromNode l i ns)) ≡ foundReply σ string n l i (firstOf l i (map content (map nodeOf ns)))
+          → nodeReply σ string list n l i (map entryOf (cond t (x ∷ ns) (fromNode l i ns))) ≡ foundReply σ string n l i (cond t (some (x .node .bytes)) (firstOf l i (map content (map nodeOf ns))))
       go true e rest = first-reply x ns (eqb-true _ _ (and-true (eqb (x .node .level) l) _ e .0)) (tidy .0) w ws
       go false e rest = rest
 

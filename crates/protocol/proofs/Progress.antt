@@ -1,11 +1,11 @@
 -- A session between such ends goes through: taking a genuine reply to the outstanding query again and again hands the string over, with at
 -- most one call for each node of the sender's tree and one for the opening.
-use mathlib.Core.Bool.{Bool, true, false}
+use mathlib.Core.Bool.{true}
 use mathlib.Core.List.{List, [], _∷_}
 use mathlib.Core.Logic.{inl, inr}
-use mathlib.Core.Option.{Option, none, some}
+use mathlib.Core.Option.{some}
 use mathlib.Core.Path.{_≡_, refl, ap, _∙_}
-use Prim.Native.Nat.{ℕ, zero, suc, _+_, _%_, _^_, _≤_, _<_}
+use Prim.Native.Nat.{ℕ, zero, suc, _%_, _^_, _≤_, _<_}
 use native.Mathlib.Nat.{mod-lt}
 use native.Mathlib.Omega.{arith}
 use lib.ListN.{length}
@@ -16,16 +16,15 @@ use Rattle.tree.specs.declared.Settings.{Settings}
 use Rattle.tree.specs.Tree.{nodesOf}
 use Rattle.sketch.specs.Cells.{cellsOf}
 use Rattle.setup.specs.Tables.{shinglesOfString}
-use Rattle.trail.specs.Trails.{trailNumber}
 use Rattle.message.specs.Words.{plain}
 use Rattle.message.specs.Fields.{one, value}
 use Rattle.message.specs.Messages.{Msg, openingQuery, nodeQuery, opening, composition, literal, noNode, encode, headed, wordsThen, sizeOf, Parts, Valid}
 use Rattle.protocol.specs.Lent.{Lent}
 use Rattle.protocol.specs.State.{State, initial, running, outstanding}
-use Rattle.protocol.specs.Sender.{ruleNumber, composable, refsOf}
+use Rattle.protocol.specs.Sender.{ruleNumber}
 use Rattle.protocol.specs.Receiver.{takeMessage, sessionOf}
 use Rattle.protocol.specs.Calls.{Call, takes, step, Event, event, accepts, counting, events, Every, Some}
-use Rattle.protocol.specs.Genuine.{blocksOf, childrenIds, firstOf, IsBlockReply, IsNodeReply, IsReply, GenuineReply, Genuine}
+use Rattle.protocol.specs.Genuine.{blocksOf, firstOf, foundReply, IsReply, GenuineReply, Genuine}
 use Rattle.protocol.specs.Demand.{SetupAccepts, leftBySetup, LentTo, leftBy, Chained, TakesGenuine, DeliveredTo, Ends, Progress}
 use Rattle.protocol.proofs.Cases.{either}
 use Rattle.protocol.proofs.Exactly.{hands, HandsSome}
@@ -36,35 +35,17 @@ use Rattle.protocol.proofs.Accepting.{low}
 use Rattle.protocol.proofs.Session.{Accepts, delivered-accepted, starts-asks, pends-asks, closed-idle, session-runs}
 use Rattle.protocol.proofs.Demand.{theirs-apart, the-start, handed-string}
 
--- A reply to a query, references rising.
+-- The reply to a query.
 module _ (σ : Settings) (string : List ℕ) where
-  unfoldable blockAnswer : (n l i : ℕ) → List ℕ → Bool → Msg
-  blockAnswer n l i bytes true = composition n l i (trailNumber (childrenIds σ l bytes)) (refsOf (shinglesOfString σ string) (l + 1) (childrenIds σ l bytes))
-  blockAnswer n l i bytes false = literal n l i bytes
-
-  unfoldable nodeAnswer : (n l i : ℕ) → Option (List ℕ) → Msg
-  nodeAnswer n l i none = noNode n l i
-  nodeAnswer n l i (some bytes) = blockAnswer n l i bytes (composable σ l (childrenIds σ l bytes))
-
   unfoldable answerTo : Msg → Msg
   answerTo (openingQuery n) =
       opening n ruleNumber (σ .window) (σ .«fan_out») (σ .levels) (σ .nominal) (σ .width) (length string) (blockId string)
       (cellsOf (σ .width) (shinglesOfString σ string))
-  answerTo (nodeQuery n l i) = nodeAnswer n l i (firstOf l i (blocksOf σ string))
+  answerTo (nodeQuery n l i) = foundReply σ string n l i (firstOf l i (blocksOf σ string))
   answerTo (opening n rule w p L M q size root cells) = openingQuery n
   answerTo (composition n l i x refs) = openingQuery n
   answerTo (literal n l i bytes) = openingQuery n
   answerTo (noNode n l i) = openingQuery n
-
-  block-replies : (n l i : ℕ) (bytes : List ℕ) (t : Bool) → IsBlockReply σ string n l i bytes t (blockAnswer n l i bytes t)
-  unfolding IsBlockReply blockAnswer
-  block-replies n l i bytes true = record { refs = _; order = record { same = λ f. refl }; is = refl }
-  block-replies n l i bytes false = refl
-
-  node-replies : (n l i : ℕ) (o : Option (List ℕ)) → IsNodeReply σ string n l i o (nodeAnswer n l i o)
-  unfolding IsNodeReply nodeAnswer
-  node-replies n l i none = refl
-  node-replies n l i (some bytes) = block-replies n l i bytes (composable σ l (childrenIds σ l bytes))
 
   opening-replies : (n : ℕ) → IsReply σ string (openingQuery n) (answerTo (openingQuery n))
   unfolding IsReply answerTo
@@ -72,7 +53,7 @@ module _ (σ : Settings) (string : List ℕ) where
 
   query-replies : (n l i : ℕ) → IsReply σ string (nodeQuery n l i) (answerTo (nodeQuery n l i))
   unfolding IsReply answerTo
-  query-replies n l i = node-replies n l i (firstOf l i (blocksOf σ string))
+  query-replies n l i = refl
 
 -- The queries of a receiver are within their fields.
 pub valid-opening-query : (n : ℕ) → n < 2 ^ 24 → Valid (openingQuery n)

@@ -3,11 +3,10 @@ use mathlib.Core.Bool.{Bool, true, false, cond, _&&_}
 use mathlib.Core.List.{List, [], _∷_}
 use mathlib.Core.Option.{some}
 use mathlib.Core.Path.{_≡_, subst}
-use Prim.Native.Nat.{ℕ, zero, suc, _+_, _*_, _/_, _^_, _≤_, _<_}
+use Prim.Native.Nat.{ℕ, zero, suc, _+_, _*_, _/_, _^_, _<_}
 use native.Mathlib.Omega.{arith}
 use lib.Dec.{eqb, ltb}
 use lib.ListN.{length, getD, drop, length-append, length-take, length-drop}
-use borrow.Author.Tests.{ltb-true}
 use Rattle.rows.specs.Rows.{wordsOf}
 use Rattle.tree.specs.declared.Settings.{Settings}
 use Rattle.tree.proofs.Questions.{granted}
@@ -19,21 +18,18 @@ use Rattle.sketch.specs.Sums.{along}
 use Rattle.sketch.proofs.Sums.{length-along}
 use Rattle.single.specs.Peeling.{rowsIn}
 use Rattle.setup.proofs.Questions.{Lent as Passed, lent as lent-passed}
-use Rattle.trail.specs.Trails.{trailNumber}
-use Rattle.trail.specs.Calls.{nonzero}
-use Rattle.trail.proofs.Answers.{number-small}
-use Rattle.message.specs.Words.{plain, referenceWord}
-use Rattle.message.specs.Fields.{one, value, values, valuesTo, many, manyTo, only}
+use Rattle.message.specs.Words.{plain}
+use Rattle.message.specs.Fields.{one, value, values, valuesTo}
 use Rattle.message.specs.Fields.{Every as All}
 use Rattle.message.specs.Messages.{Msg, openingQuery, nodeQuery, opening, composition, literal, noNode, cellValues, headed, wordsThen, sizeOf, Parts, Valid}
 use Rattle.protocol.specs.Lent.{Lent, refusedBy}
 use Rattle.node_table.specs.declared.Entry.{Entry}
 use Rattle.node_table.specs.Nodes.{inside, entriesIn, fromFirst}
 use Rattle.protocol.specs.Nodes.{blockIn}
-use Rattle.protocol.specs.Sender.{childIds, composable, refsOf, indexed, referable, nodeReply, openingReply, replyTo}
+use Rattle.protocol.specs.Sender.{childIds, composable, referable, nodeReply, openingReply, replyTo}
 use Rattle.protocol.specs.Calls.{Every}
 use Rattle.protocol.proofs.Cases.{chosen, same-message, no-message}
-use Rattle.protocol.proofs.Valid.{references-fit, length-values, length-references, all-take, every-drop, Printable, valid-none, valid-literal}
+use Rattle.protocol.proofs.Valid.{length-values, all-take, every-drop, Printable, valid-none, valid-literal, valid-composition}
 
 abbrev pub Byte : ℕ → Type 0
 Byte b = b < 256
@@ -65,31 +61,6 @@ along-small : (n i : ℕ) (f : ℕ → ℕ) → ((k : ℕ) → f k < 2 ^ 64) →
 unfolding along
 along-small zero i f h = tt
 along-small (suc n) i f h = (h i, along-small n (suc i) f h)
-
--- A composition that can be written.
-composition-valid : (σ : Settings) (list : List Shingle) (n l i : ℕ) (ids : List ℕ) → Valid (nodeQuery n l i) → composable σ l ids ≡ true
-    → referable list (l + 1) ids ≡ true → Valid (composition n l i (trailNumber ids) (refsOf list (l + 1) ids))
-unfolding composable referable Parts sizeOf wordsThen headed one value only many plain
-composition-valid σ list n l i ids v c r =
-    let refs = refsOf list (l + 1) ids in
-    let some = and-true (ltb l (σ .levels)) _ c .1 in
-    let few = ltb-true (length ids) 33 (and-true (ltb (length ids) 33) (nonzero ids && ltb (trailNumber ids) 4096) (and-true (ltb 0 (length ids)) _ some .1) .0) in
-    let children : length ids ≤ 32 = omega (arith, few) in
-    let written = and-true (ltb (length refs) 33) (indexed refs) r in
-    let short = ltb-true (length refs) 33 (written .0) in
-    let e = length-append (manyTo referenceWord refs) [] in
-    let h = length-references refs in
-    let x = number-small ids in
-    record {
-      size = omega (arith, e, h, short);
-      parts = (
-        v .parts .0,
-        v .parts .1,
-        v .parts .2,
-        omega (arith, x),
-        references-fit list (l + 1) ids children (written .1),
-      );
-    }
 
 module _ (σ : Settings) (m : Lent) (asked : refusedBy σ m ≡ 0) where
   passed : Passed σ (length (m .string)) (length (m .nodes)) (length (m .shingles)) (length (m .cells))
@@ -134,7 +105,7 @@ module _ (σ : Settings) (m : Lent) (asked : refusedBy σ m ≡ 0) where
     node-valid list n l i (e ∷ es) v =
         let ids = childIds (length (m .string)) l es in
         chosen Valid (composable σ l ids && referable list (l + 1) ids) _ _
-        (λ t. let both = and-true (composable σ l ids) _ t in composition-valid σ list n l i ids v (both .0) (both .1))
+        (λ t. let both = and-true (composable σ l ids) _ t in valid-composition σ list n l i ids v (both .0) (both .1))
         (λ t. valid-literal n l i _ v (block-printable e))
 
     -- Any reply: what is lent for reading are bytes, and the query is one that was read.

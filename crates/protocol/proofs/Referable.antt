@@ -82,7 +82,7 @@ few-standing (p ∷ ps) {ss} r =
     let rest = few-standing ps r in
     omega (arith, more, once, rest)
 
-length-along : (l v : ℕ) (ids : List ℕ) → length (pairsAlong l v ids) ≡ length ids
+pub length-along : (l v : ℕ) (ids : List ℕ) → length (pairsAlong l v ids) ≡ length ids
 unfolding pairsAlong
 length-along l v [] = refl
 length-along l v (x ∷ ids) = ap suc (length-along l x ids)

@@ -1,5 +1,5 @@
--- What the references of a node's children say to a receiver that has the sender's list, in whatever order they come: each names a pair of
--- the list, and together they are the multiset of the children's pairs.
+-- What the references of a node's children say to a receiver that has the sender's list: each names a pair of the list, and together they are
+-- the multiset of the children's pairs.
 use mathlib.Core.Bool.{Bool, true, false, cond, _&&_}
 use mathlib.Core.List.{List, [], _∷_}
 use mathlib.Core.Path.{_≡_, refl, sym, ap, subst, _∙_, fun-ext}
@@ -9,7 +9,7 @@ use lib.Dec.{eqb}
 use lib.ListN.{length, getD}
 use borrow.Author.Tests.{eqb-true, eqb-false, eq-eqb, ne-eqb, lt-ltb, le-leb}
 use Rattle.entries.proofs.Linear.{both}
-use Rattle.sort.specs.Shell.{total, Same}
+use Rattle.sort.specs.Shell.{total}
 use Rattle.shingle.specs.declared.Shingle.{Shingle}
 use Rattle.shingle.specs.Shingles.{Pair, pair, pairOf, shingle}
 use Rattle.shingle.specs.Rising.{Over, Rising, none, more, samePair, howMany}
@@ -175,13 +175,10 @@ module _ (list : List Shingle) (rises : Rising list) (l : ℕ) (ids : List ℕ)
             let t = there (pair l p o) (omega (arith, e)) in
             once-held (pair l p o) (suc n) rises (t .0) (t .1)
 
-  -- A reference that the sender writes is named by the list.
-  wrong : Ref → ℕ
-  wrong r = cond (isNamed list l r) 0 1
-
-  not-wrong : (i n : ℕ) (s : Shingle) → i < length list → getD list i blankShingle ≡ s → times s ≡ suc n → wrong (record { index = i; count = suc n }) ≡ 0
-  unfolding wrong isNamed
-  not-wrong i n s h e t =
+  -- Each reference that the sender writes is named by the list.
+  is-named : (i n : ℕ) (s : Shingle) → i < length list → getD list i blankShingle ≡ s → times s ≡ suc n → isNamed list l (record { index = i; count = suc n }) ≡ true
+  unfolding isNamed
+  is-named i n s h e t =
       let some : 1 ≤ times s = omega (arith, t) in
       let other = there (pairOf s) some in
       let here : holds s list ≡ true = ap (λ (x : Shingle). holds x list) (sym e) ∙ held-at list i blankShingle h in
@@ -191,23 +188,14 @@ module _ (list : List Shingle) (rises : Rising list) (l : ℕ) (ids : List ℕ)
       let few : suc n ≤ s .count = omega (arith, other .2) in
       rw (e, lt-ltb i (length list) h, eq-eqb (s .level) l level, le-leb)
 
-  none-wrong : (i : ℕ) (ss : List Shingle) → From i ss → total wrong (refsFrom i ss l ids) ≡ 0
-  unfolding total refsFrom
-  none-wrong i [] at = refl
-  none-wrong i (s ∷ ss) at = go (times s) refl (none-wrong (suc i) ss (from-next at))
+  all-named : (i : ℕ) (ss : List Shingle) → From i ss → allNamed list l (refsFrom i ss l ids) ≡ true
+  unfolding allNamed refsFrom
+  all-named i [] at = refl
+  all-named i (s ∷ ss) at = go (times s) refl (all-named (suc i) ss (from-next at))
     where
-      go : (n : ℕ) → times s ≡ n → total wrong (refsFrom (suc i) ss l ids) ≡ 0 → total wrong (refer i n (refsFrom (suc i) ss l ids)) ≡ 0
+      go : (n : ℕ) → times s ≡ n → allNamed list l (refsFrom (suc i) ss l ids) ≡ true → allNamed list l (refer i n (refsFrom (suc i) ss l ids)) ≡ true
       go zero e rest = unfold refer in rest
-      go (suc n) e rest = unfold refer in let z = not-wrong i n s (omega (arith, at .inside)) (from-here at) e in omega (arith, z, rest)
-
-  all-right : (refs : List Ref) → total wrong refs ≡ 0 → allNamed list l refs ≡ true
-  unfolding total allNamed wrong
-  all-right [] h = refl
-  all-right (r ∷ refs) h = go (isNamed list l r) h (all-right refs)
-    where
-      go : (t : Bool) → cond t 0 1 + total wrong refs ≡ 0 → (total wrong refs ≡ 0 → allNamed list l refs ≡ true) → (t && allNamed list l refs) ≡ true
-      go true e rest = rest (omega (arith, e))
-      go false e rest = absurd (omega (arith, e))
+      go (suc n) e rest = unfold refer allNamed in rw (is-named i n s (omega (arith, at .inside)) (from-here at) e) rest
 
   tally-refs : (test : ℕ → ℕ → Bool) (refs : List Ref)
       → tally test (previouses list refs) (owns list refs) (counts refs) ≡ total (λ (r : Ref). cond (test (named list r .previous) (named list r .own)) (r .count) 0) refs
@@ -216,15 +204,14 @@ module _ (list : List Shingle) (rises : Rising list) (l : ℕ) (ids : List ℕ)
   tally-refs test (r ∷ refs) = ap (λ (n : ℕ). cond (test (named list r .previous) (named list r .own)) (r .count) 0 + n) (tally-refs test refs)
 
   -- What a receiver makes of the references.
-  module _ (refs : List Ref) (order : Same refs (refsOf list l ids)) where
-    pub refs-named : allNamed list l refs ≡ true
-    unfolding refsOf
-    refs-named = all-right refs (order .same wrong ∙ none-wrong 0 list from-start)
+  pub refs-named : allNamed list l (refsOf list l ids) ≡ true
+  unfolding refsOf
+  refs-named = all-named 0 list from-start
 
-    pub refs-pairs : pairsFrom 0 ids ≡ pairsOf (previouses list refs) (owns list refs) (counts refs)
-    unfolding refsOf pairsOf
-    refs-pairs = fun-ext (λ p. fun-ext (λ o.
-        sym (along-pairs l 0 ids p o)
-        ∙ (sym (sum-fitting p o)
-        ∙ (sym (sum-refs _ (fitting p o) (λ r. refl) (λ s. cond-same (eqb (s .previous) p && eqb (s .own) o) 0) 0 list from-start)
-        ∙ (sym (order .same _) ∙ sym (tally-refs (λ x y. eqb x p && eqb y o) refs))))))
+  pub refs-pairs : pairsFrom 0 ids ≡ pairsOf (previouses list (refsOf list l ids)) (owns list (refsOf list l ids)) (counts (refsOf list l ids))
+  unfolding refsOf pairsOf
+  refs-pairs = fun-ext (λ p. fun-ext (λ o.
+      sym (along-pairs l 0 ids p o)
+      ∙ (sym (sum-fitting p o)
+      ∙ (sym (sum-refs _ (fitting p o) (λ r. refl) (λ s. cond-same (eqb (s .previous) p && eqb (s .own) o) 0) 0 list from-start)
+      ∙ sym (tally-refs (λ x y. eqb x p && eqb y o) (refsFrom 0 list l ids))))))

@@ -25,7 +25,6 @@ use Rattle.shingle.proofs.PairOrder.{and-true}
 use Rattle.shingle.proofs.Rising.{shingles-rise}
 use Rattle.shingle.proofs.Descent.{tree-children-listed}
 use Rattle.setup.specs.Tables.{shinglesOfString}
-use Rattle.sort.specs.Shell.{Same}
 use Rattle.trail.specs.Trails.{pairsFrom, pairsOf, total, trailNumber, trailsOver, orderOf}
 use Rattle.trail.proofs.Orders.{order-of-number}
 use Rattle.trail.proofs.Weigh.{trail-length}
@@ -90,16 +89,19 @@ module _ (σ : Settings) (string : List ℕ) (c : Content) (real : In c (blocksO
   unfolding childrenIds
   length-ids = length-map (childrenOf σ (c .level + 1) (c .bytes)) blockId
 
-  module _ (refs : List Ref) (order : Same refs (refsOf (shinglesOfString σ string) (c .level + 1) ids)) (low : trailNumber ids ≤ 4095) where
+  module _ (low : trailNumber ids ≤ 4095) where
     abbrev list : List Shingle
     list = shinglesOfString σ string
+
+    abbrev refs : List Ref
+    refs = refsOf list (c .level + 1) ids
 
     rises : Rising list
     unfolding shinglesOfString
     rises = shingles-rise _
 
     same-pairs : pairsFrom 0 ids ≡ pairsOf (previouses list refs) (owns list refs) (counts refs)
-    same-pairs = refs-pairs list rises (c .level + 1) ids children-there refs order
+    same-pairs = refs-pairs list rises (c .level + 1) ids children-there
 
     columns : (length (previouses list refs) ≡ length (counts refs)) × (length (owns list refs) ≡ length (counts refs))
     columns = (length-map refs _ ∙ sym (length-map refs _), length-map refs _ ∙ sym (length-map refs _))
@@ -118,7 +120,7 @@ module _ (σ : Settings) (string : List ℕ) (c : Content) (real : In c (blocksO
     pub composition-taken : (rest : ℕ) → rest + length ids ≤ 128 → composes σ list (c .level) (trailNumber ids) refs rest ≡ true
     unfolding composes
     composition-taken rest room =
-        let named = refs-named list rises (c .level + 1) ids children-there refs order in
+        let named = refs-named list rises (c .level + 1) ids children-there in
         let some : 1 ≤ total (counts refs) = omega (arith, as-many, length-ids, children-some σ (c .level + 1) (c .bytes)) in
         let few : total (counts refs) ≤ 32 = omega (arith, as-many, length-ids, children-few σ (c .level + 1) (c .bytes)) in
         rw (

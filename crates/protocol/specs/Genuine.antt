@@ -14,10 +14,9 @@ use Rattle.tree.specs.Tree.{childrenOf, nodesOf}
 use Rattle.tree.specs.Laws.{Content, content}
 use Rattle.sketch.specs.Cells.{cellsOf}
 use Rattle.setup.specs.Tables.{shinglesOfString}
-use Rattle.sort.specs.Shell.{Same}
 use Rattle.trail.specs.Trails.{trailNumber}
 use Rattle.message.specs.Words.{Ref}
-use Rattle.message.specs.Messages.{Msg, openingQuery, nodeQuery, opening, composition, literal, noNode, encode, Valid}
+use Rattle.message.specs.Messages.{Msg, openingQuery, nodeQuery, opening, composition, literal, noNode, encode, parse, Valid}
 use Rattle.protocol.specs.Sender.{ruleNumber, composable, refsOf}
 use Rattle.protocol.specs.Receiver.{sessionOf}
 use Rattle.protocol.specs.Calls.{Every}
@@ -36,32 +35,28 @@ pub record Accepted (σ : Settings) (string : List ℕ) : Type 0 where
 unfoldable pub childrenIds : Settings → ℕ → List ℕ → List ℕ
 childrenIds σ l bytes = map blockId (childrenOf σ (l + 1) bytes)
 
--- A type 4 for a block of level l: "references in any order".
-pub record Composes (σ : Settings) (string : List ℕ) (n l i : ℕ) (bytes : List ℕ) (m : Msg) : Type 0 where
-  pub refs : List Ref
-  pub order : Same refs (refsOf (shinglesOfString σ string) (l + 1) (childrenIds σ l bytes))
-  pub is : m ≡ composition n l i (trailNumber (childrenIds σ l bytes)) refs
-
--- "At level L, or with a trail number above 4,095: type 5. Else type 4".
-unfoldable pub IsBlockReply : Settings → List ℕ → (session level id : ℕ) → List ℕ → Bool → Msg → Type 0
-IsBlockReply σ string n l i bytes true m = Composes σ string n l i bytes m
-IsBlockReply σ string n l i bytes false m = m ≡ literal n l i bytes
+-- The reply for a block: "At level L, or with a trail number above 4,095: type 5. Else type 4, referring to its list." Document 02, request 2:
+-- "References now rise by index. Their freedom goes".
+unfoldable pub blockReply : Settings → List ℕ → (session level id : ℕ) → List ℕ → Bool → Msg
+blockReply σ string n l i bytes true =
+    composition n l i (trailNumber (childrenIds σ l bytes)) (refsOf (shinglesOfString σ string) (l + 1) (childrenIds σ l bytes))
+blockReply σ string n l i bytes false = literal n l i bytes
 
 -- "it finds its first node of that level and id. None: type 6."
 unfoldable pub firstOf : ℕ → ℕ → List Content → Option (List ℕ)
 firstOf l i [] = none
 firstOf l i (c ∷ cs) = cond (eqb (c .level) l && eqb (blockId (c .bytes)) i) (some (c .bytes)) (firstOf l i cs)
 
-unfoldable pub IsNodeReply : Settings → List ℕ → (session level id : ℕ) → Option (List ℕ) → Msg → Type 0
-IsNodeReply σ string n l i none m = m ≡ noNode n l i
-IsNodeReply σ string n l i (some bytes) m = IsBlockReply σ string n l i bytes (composable σ l (childrenIds σ l bytes)) m
+unfoldable pub foundReply : Settings → List ℕ → (session level id : ℕ) → Option (List ℕ) → Msg
+foundReply σ string n l i none = noNode n l i
+foundReply σ string n l i (some bytes) = blockReply σ string n l i bytes (composable σ l (childrenIds σ l bytes))
 
--- The message is a reply to the query by a sender that was set up over the string.
+-- The message is the reply to the query by a sender that was set up over the string.
 unfoldable pub IsReply : Settings → List ℕ → Msg → Msg → Type 0
 IsReply σ string (openingQuery n) m =
     m ≡ opening n ruleNumber (σ .window) (σ .«fan_out») (σ .levels) (σ .nominal) (σ .width)
     (length string) (blockId string) (cellsOf (σ .width) (shinglesOfString σ string))
-IsReply σ string (nodeQuery n l i) m = IsNodeReply σ string n l i (firstOf l i (blocksOf σ string)) m
+IsReply σ string (nodeQuery n l i) m = m ≡ foundReply σ string n l i (firstOf l i (blocksOf σ string))
 IsReply σ string (opening n rule w p L M q size root cells) m = ⊥
 IsReply σ string (composition n l i x refs) m = ⊥
 IsReply σ string (literal n l i bytes) m = ⊥
@@ -88,3 +83,10 @@ pub record GenuineReply (σ : Settings) (string : List ℕ) (session : ℕ) (que
 pub record Genuine (σ : Settings) (string : List ℕ) (session : ℕ) (bytes : List ℕ) : Type 0 where
   pub query : Msg
   pub reply : GenuineReply σ string session query bytes
+
+-- Document 02, request 2: "a setup's node has at most one genuine composition a session". Under a session number that serves one string, two genuine
+-- compositions of one level and id are the same bytes, whichever of the string's senders wrote them.
+abbrev pub OneComposition : Type 0
+OneComposition =
+    (σ : Settings) (string : List ℕ) (session : ℕ) (a b : List ℕ) → Genuine σ string session a → Genuine σ string session b
+    → (l i x y : ℕ) (refs refs′ : List Ref) → parse a ≡ some (composition session l i x refs) → parse b ≡ some (composition session l i y refs′) → a ≡ b

@@ -183,7 +183,10 @@ mod openings {
 
 #[cfg(feature = "sessions")]
 mod sessions {
-    use calls::{rcds_query, rcds_receiver_setup, rcds_reply, rcds_sender_setup, rcds_take};
+    use calls::{
+        rcds_message_type, rcds_query, rcds_receiver_setup, rcds_reply, rcds_sender_setup,
+        rcds_take,
+    };
     use conformance::failure::Failure;
     use conformance::sessions::{run_all, run_one, Calls};
 
@@ -193,6 +196,7 @@ mod sessions {
         receiver_setup: rcds_receiver_setup,
         query: rcds_query,
         take: rcds_take,
+        message_type: rcds_message_type,
     };
 
     pub fn run(seed: u64, case: Option<usize>) -> Result<Vec<String>, Failure> {

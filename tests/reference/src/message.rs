@@ -1,7 +1,6 @@
 //! Messages: rows of words, in six types.
 
 use crate::word::{self, Reference, Word};
-use std::collections::BTreeSet;
 
 /// A message: its session, and what stands between head and end.
 #[derive(Clone, Debug, PartialEq, Eq)]
@@ -19,7 +18,8 @@ pub enum Body {
     NodeQuery { level: u32, id: u64 },
     /// "3 opening"
     Opening(Opening),
-    /// "4 composition: level, id, trail number, references in any order, each index once"
+    /// "4 composition: level, id, trail number, references ..., each index once"; "References now
+    /// rise by index" (document 02, request 2).
     Composition {
         level: u32,
         id: u64,
@@ -157,16 +157,17 @@ fn parse_opening(words: &[Word]) -> Option<Opening> {
     })
 }
 
-/// "no index twice"
+/// "References now rise by index" (document 02, request 2), and "each index once" stays: each index
+/// is above the one before it, whatever the counts are. "A sender of the old kind is met by number 10
+/// when its order falls."
 fn parse_references(words: &[Word]) -> Option<Vec<Reference>> {
-    let mut references = Vec::new();
-    let mut indexes = BTreeSet::new();
+    let mut references: Vec<Reference> = Vec::new();
     for word in words {
         let Word::Reference(reference) = word else {
             return None;
         };
-        let first = indexes.insert(reference.index);
-        if !first {
+        let before = references.last();
+        if before.is_some_and(|before| reference.index <= before.index) {
             return None;
         }
         references.push(*reference);
@@ -191,7 +192,7 @@ fn parse_bytes(words: &[Word]) -> Option<Vec<u8>> {
 }
 
 /// The bytes of a message whose numbers fit their places: words "on the link most significant byte
-/// first".
+/// first". References are written in the order given, so that tests write also those that do not rise.
 pub fn encode(message: &Message) -> Vec<u8> {
     let mut words = vec![Word::Head {
         message_type: message.body.message_type(),

@@ -90,8 +90,10 @@ fn node_reply(settings: &Settings, lent: &Lent, level: u32, id: u64) -> Body {
     }
 }
 
-/// The trail number of node k's children, and a reference for each different pair of them, rising by
-/// index: where it stands in the list, and how often these children give it.
+/// The trail number of node k's children, and a reference for each different pair of them: where it
+/// stands in the list, and how often these children give it. "References now rise by index. Their
+/// freedom goes, and a setup's node has at most one genuine composition a session." (document 02,
+/// request 2)
 ///
 /// Nothing where the number is above 4,095. Over tables that no setup left, also nothing where the
 /// node has no number, or a pair has no index of 12 bits.

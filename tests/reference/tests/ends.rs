@@ -3,7 +3,7 @@
 use reference::fnv::block_id;
 use reference::lent::Lent;
 use reference::message::{encode, parse, Body, Message, Opening};
-use reference::rcds::ACCEPTED;
+use reference::rcds::{rcds_message_type, ACCEPTED};
 use reference::receiver::{
     outstanding, running, set_up, take, write_query, Answer, Pending, Receiver, Stage,
 };
@@ -164,6 +164,7 @@ fn references_count_these_children_only() {
         (index((1, one, one)), 2),
         (index((1, one, three)), 1),
     ];
+    // "References now rise by index" (document 02, request 2).
     references.sort();
     let root = block_id(&[7; 6]);
     let order = composition(root, 0, &references);
@@ -358,6 +359,99 @@ fn questions_10_and_11() {
     refused_by(11, (state, lent, vec![9; 6]), &opening);
 }
 
+/// The composition of the six bytes with references that do not rise: exchanged, or one a second time,
+/// with the same and another count, beside itself and apart.
+fn not_rising() -> [Vec<u8>; 6] {
+    let references: [&[(u32, u32)]; 6] = [
+        &[(2, 1), (1, 1)],
+        &[(1, 1), (1, 1)],
+        &[(1, 1), (1, 2)],
+        &[(1, 1), (2, 1), (2, 1)],
+        &[(1, 1), (2, 2), (2, 1)],
+        &[(1, 1), (2, 1), (1, 1)],
+    ];
+    references.map(|references| composition(block_id(&SIX), 0, references))
+}
+
+/// "A sender of the old kind is met by number 10 when its order falls." (document 02, request 2) "A no
+/// at 9 to 11 changes no state and no buffer", so the session goes on.
+#[test]
+fn a_receiver_meets_references_that_do_not_rise_by_10() {
+    let (mut state, mut lent, mut output) = opened();
+    for order in not_rising() {
+        assert_eq!(rcds_message_type(&order), 10);
+        let before = (state.clone(), lent.clone(), output.clone());
+        let answer = take(&mut state, &mut lent, &order, &mut output);
+        assert_eq!(answer, Answer::Refused(10));
+        assert_eq!((&state, &lent, &output), (&before.0, &before.1, &before.2));
+    }
+    let (left, right) = (block_id(&SIX[..2]), block_id(&SIX[2..]));
+    for (reply, answer) in [
+        (
+            replied(&sender(&SIX), &query(0, block_id(&SIX))),
+            Answer::Waiting,
+        ),
+        (literal(1, left, &SIX[..2]), Answer::Waiting),
+        (literal(1, right, &SIX[2..]), Answer::Handed(6)),
+    ] {
+        assert_eq!(take(&mut state, &mut lent, &reply, &mut output), answer);
+    }
+    assert_eq!(output[..6], SIX);
+}
+
+/// 9 comes before 10, and 10 before 11.
+#[test]
+fn references_that_do_not_rise_between_9_and_11() {
+    for order in not_rising() {
+        // No query of this node is outstanding, or none of this session.
+        refused_by(10, composed(), &order);
+        let (state, lent) = receiver(&SIX, 5);
+        refused_by(10, (state, lent, vec![9; 6]), &order);
+        let (mut state, lent, output) = opened();
+        state.session = 6;
+        refused_by(10, (state.clone(), lent.clone(), output.clone()), &order);
+        state.stage = Stage::Ended;
+        refused_by(9, (state, lent, output), &order);
+    }
+    let rising = composition(block_id(&SIX), 0, &[(1, 1), (2, 1)]);
+    refused_by(11, composed(), &rising);
+}
+
+/// The sender asks 10 "as above", before 11: a composition that rises is none of types 1 and 2.
+#[test]
+fn a_sender_meets_references_that_do_not_rise_by_10() {
+    let lent = sender(&SIX);
+    for bytes in [0, 200] {
+        for order in not_rising() {
+            assert_eq!(refused(&SMALLEST, WIDTH, &lent, &order, bytes), 10);
+        }
+        for references in [
+            &[][..],
+            &[(4_095, 1)],
+            &[(1, 1), (2, 1)],
+            &[(1, 2), (4_095, 1)],
+        ] {
+            let rising = composition(block_id(&SIX), 0, references);
+            assert_eq!(refused(&SMALLEST, WIDTH, &lent, &rising, bytes), 11);
+        }
+    }
+}
+
+/// "a setup's node has at most one genuine composition a session" (document 02, request 2): whatever the
+/// memory held before the setup.
+#[test]
+fn one_composition_of_a_node() {
+    let root = query(0, block_id(&SIX));
+    let mut other = Lent {
+        string: SIX.to_vec(),
+        nodes: vec![3; 65_536 + 16],
+        shingles: vec![3; 98_304 + 24],
+        cells: vec![3; 7_680 + 40],
+    };
+    assert!(other.set_up(&SMALLEST, WIDTH) > ACCEPTED);
+    assert_eq!(replied(&other, &root), replied(&sender(&SIX), &root));
+}
+
 /// The opening of the six bytes with a change.
 fn other_opening(change: impl FnOnce(&mut Opening)) -> Vec<u8> {
     let mut message = parse(&replied(&sender(&SIX), &message(Body::OpeningQuery)))
@@ -450,7 +544,7 @@ fn question_17() {
     };
     refused_by(17, composed(), &message(body));
     // Two children in place of one node, on a pile that is full.
-    let order = composition(root, 0, &[(2, 1), (1, 1)]);
+    let order = composition(root, 0, &[(1, 1), (2, 1)]);
     let (mut state, mut lent, mut output) = opened();
     let below = Pending { level: 1, id: 1 };
     state.pile.splice(0..0, vec![below; 127]);

@@ -36,12 +36,18 @@ fn opening(width: u32) -> Message {
 }
 
 fn composition(indexes: &[u32]) -> Message {
-    let reference = |&index: &u32| Reference { index, count: 1 };
+    let pairs: Vec<(u32, u32)> = indexes.iter().map(|&index| (index, 1)).collect();
+    counted(&pairs)
+}
+
+/// A composition of these indexes with their counts, in this order.
+fn counted(pairs: &[(u32, u32)]) -> Message {
+    let reference = |&(index, count): &(u32, u32)| Reference { index, count };
     with(Body::Composition {
         level: 0,
         id: ID,
         number: 4_095,
-        references: indexes.iter().map(reference).collect(),
+        references: pairs.iter().map(reference).collect(),
     })
 }
 
@@ -63,8 +69,8 @@ fn messages() -> Vec<Message> {
         opening(1),
         opening(64),
         composition(&[]),
-        composition(&[7, 3, 4_095, 0]),
-        composition(&(0..4_096).rev().collect::<Vec<_>>()),
+        composition(&[0, 3, 7, 4_095]),
+        composition(&(0..4_096).collect::<Vec<_>>()),
         literal(0),
         literal(1),
         literal(2),
@@ -271,6 +277,90 @@ fn references() {
     }
     refused_with(&composition(&[9, 10, 11]), 8, 0x4000_0000 | 9 << 6 | 2);
     refused_with(&composition(&[9, 10, 11]), 7, 0x4000_0000 | 9 << 6 | 1);
+}
+
+/// "References now rise by index" (document 02, request 2).
+#[test]
+fn references_rise_by_index() {
+    let all: Vec<u32> = (0..4_096).collect();
+    let rising: [&[u32]; 8] = [
+        &[],
+        &[0],
+        &[4_095],
+        &[0, 1],
+        &[0, 4_095],
+        &[255, 256, 2_047, 2_048],
+        &[3, 7, 9, 4_094, 4_095],
+        &all,
+    ];
+    for indexes in rising {
+        let message = composition(indexes);
+        assert_eq!(parse(&encode(&message)), Some(message));
+    }
+}
+
+/// "A sender of the old kind is met by number 10 when its order falls." (document 02, request 2)
+#[test]
+fn references_that_fall_are_met_by_10() {
+    let falling: [&[u32]; 10] = [
+        &[1, 0],
+        &[4_095, 0],
+        &[2_048, 2_047],
+        &[256, 255],
+        // Two neighbours exchanged: the first ones, some between, the last ones.
+        &[7, 3, 9, 4_095],
+        &[3, 9, 7, 4_095],
+        &[3, 7, 4_095, 9],
+        // Two that are apart, and all.
+        &[9, 7, 3, 4_095],
+        &[4_095, 7, 9, 3],
+        &[4_095, 9, 7, 3],
+    ];
+    for indexes in falling {
+        let written = encode(&composition(indexes));
+        assert_eq!(parse(&written), None, "{indexes:?}");
+        assert_eq!(rcds_message_type(&written), 10, "{indexes:?}");
+    }
+    // Each of two neighbours among all of them.
+    for place in 0..4_095 {
+        let mut indexes: Vec<u32> = (0..4_096).collect();
+        indexes.swap(place, place + 1);
+        assert_eq!(parse(&encode(&composition(&indexes))), None, "{place}");
+    }
+}
+
+/// "each index once" (document 01) stays: an index that stands twice does not rise.
+#[test]
+fn an_index_that_stands_twice_is_met_by_10() {
+    let twice: [&[(u32, u32)]; 8] = [
+        &[(0, 1), (0, 1)],
+        &[(9, 4), (9, 4)],
+        // With another count: one that rises, and one that falls.
+        &[(9, 4), (9, 5)],
+        &[(9, 4), (9, 3)],
+        &[(4_095, 31), (4_095, 32)],
+        &[(3, 1), (9, 1), (3, 1)],
+        &[(3, 1), (3, 2), (9, 1)],
+        &[(3, 1), (9, 1), (9, 32)],
+    ];
+    for pairs in twice {
+        let written = encode(&counted(pairs));
+        assert_eq!(parse(&written), None, "{pairs:?}");
+        assert_eq!(rcds_message_type(&written), 10, "{pairs:?}");
+    }
+}
+
+/// The indexes rise; the counts need not.
+#[test]
+fn counts_in_any_order() {
+    for pairs in [
+        [(3, 32), (7, 16), (9, 1)],
+        [(3, 1), (7, 32), (9, 1)],
+        [(3, 5), (7, 5), (9, 5)],
+    ] {
+        let message = counted(&pairs);
+        assert_eq!(parse(&encode(&message)), Some(message));
+    }
 }
 
 #[test]

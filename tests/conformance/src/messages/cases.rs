@@ -2,6 +2,7 @@
 //! alone.
 
 use super::damage::{damaged, Damage};
+use super::order::{disordered, Disorder, DISORDERS};
 use super::valid::{message, Sizes, LARGE, MEGABYTE, SMALL};
 use crate::failure::first_bytes;
 use crate::random::{family_of, together, Random};
@@ -42,7 +43,7 @@ pub enum Family {
     AnyBytes,
     /// An opening of few cells, with a q that is right modulo a power of two only.
     WrappedWidth,
-    /// All 4,096 references, and one more.
+    /// All 4,096 references; some with one more, or with two of them exchanged.
     AllReferences,
     /// As large as both ends exchange them, well formed or with damage.
     Large,
@@ -50,7 +51,7 @@ pub enum Family {
     Megabyte,
 }
 
-/// The kinds of damage.
+/// The kinds of damage that any message can have.
 const DAMAGES: [Damage; 9] = [
     Damage::Bits,
     Damage::Bytes,
@@ -64,7 +65,7 @@ const DAMAGES: [Damage; 9] = [
 ];
 
 /// The families, and how many cases each has.
-const FAMILIES: [(Family, usize); 18] = [
+const FAMILIES: [(Family, usize); 24] = [
     (Family::Valid, 24_000),
     (Family::Retyped, 6 * 16 * 20),
     (Family::Damaged(Damage::Edges), 36_000),
@@ -76,6 +77,15 @@ const FAMILIES: [(Family, usize); 18] = [
     (Family::Damaged(Damage::Swapped), 12_000),
     (Family::Damaged(Damage::Cut), 9_000),
     (Family::Damaged(Damage::Lengthened), 9_000),
+    (Family::Damaged(Damage::Order(Disorder::Neighbours)), 3_000),
+    (Family::Damaged(Damage::Order(Disorder::Apart)), 3_000),
+    (Family::Damaged(Damage::Order(Disorder::Doubled)), 3_000),
+    (
+        Family::Damaged(Damage::Order(Disorder::DoubledOtherCount)),
+        3_000,
+    ),
+    (Family::Damaged(Damage::Order(Disorder::Reversed)), 3_000),
+    (Family::Damaged(Damage::Order(Disorder::Lowered)), 3_000),
     (Family::DamagedTwice, 12_000),
     (Family::AnyWords, 12_000),
     (Family::AnyBytes, 2_000),
@@ -116,6 +126,7 @@ fn family_message(family: Family, place: usize, random: &mut Random) -> Vec<u8> 
             bytes[0] = 0x10 | (place / 6 % 16) as u8;
             bytes
         }
+        Family::Damaged(Damage::Order(disorder)) => not_rising(disorder, random),
         Family::Damaged(damage) => damaged(&valid(place, &SMALL, random), damage, random),
         Family::DamagedTwice => {
             let once = damaged(&valid(place, &SMALL, random), whole_words(random), random);
@@ -142,13 +153,27 @@ fn valid(place: usize, sizes: &Sizes, random: &mut Random) -> Vec<u8> {
     encode(&message(1 + place as u32 % 6, sizes, random))
 }
 
-/// A well-formed message of a type that grows; two of three with damage.
-fn valid_or_damaged(place: usize, sizes: &Sizes, random: &mut Random) -> Vec<u8> {
-    let whole = encode(&message(3 + place as u32 % 3, sizes, random));
-    match place / 3 % 3 {
-        0 => whole,
-        _ => damaged(&whole, random.one_of(&DAMAGES), random),
+/// A composition that is right but for the order of its references.
+fn not_rising(disorder: Disorder, random: &mut Random) -> Vec<u8> {
+    loop {
+        let whole = encode(&message(4, &SMALL, random));
+        if let Some(changed) = disordered(&whole, disorder, random) {
+            return changed;
+        }
     }
+}
+
+/// A well-formed message of a type that grows; two of three with damage, a composition's of its order in
+/// one of them.
+fn valid_or_damaged(place: usize, sizes: &Sizes, random: &mut Random) -> Vec<u8> {
+    let message_type = 3 + place as u32 % 3;
+    let whole = encode(&message(message_type, sizes, random));
+    let damage = match (place / 3 % 3, message_type) {
+        (0, _) => return whole,
+        (1, 4) => Damage::Order(random.one_of(&DISORDERS)),
+        _ => random.one_of(&DAMAGES),
+    };
+    damaged(&whole, damage, random)
 }
 
 /// A kind of damage that leaves whole words.
@@ -173,6 +198,7 @@ fn any_words(random: &mut Random) -> Vec<u8> {
     };
     let more = random.one_of(&[2, 3, 4, 5]);
     let count = random.by_size(0, 50) as usize;
+    let first = words.len() + kinds.len();
     for kind in kinds.into_iter().chain(vec![more; count]) {
         let kind = if random.between(0, 40) == 0 {
             random.between(1, 6) as u32
@@ -180,6 +206,10 @@ fn any_words(random: &mut Random) -> Vec<u8> {
             kind
         };
         words.push(kind << 28 | likely_rest(kind, random));
+    }
+    // Most references rise.
+    if more == 4 && random.percent(75) {
+        words[first..].sort();
     }
     words.push(6 << 28 | (words.len() as u32 + 1));
     bytes(&words)
@@ -210,18 +240,16 @@ fn wrapped_width(random: &mut Random) -> Vec<u8> {
     bytes(&words)
 }
 
-/// Every index once, and in two of three cases one index once more.
+/// Every index once, rising; in a third of the cases one index once more, and in a third two exchanged.
 fn all_references(place: usize, random: &mut Random) -> Vec<u8> {
     let mut words = vec![0x1400_0005, 2 << 28, 3 << 28, 3 << 28, 3 << 28, 2 << 28];
     let mut indexes: Vec<u32> = (0..4_096).collect();
-    for k in 0..indexes.len() {
-        let other = random.between(k as u64, 4_095) as usize;
-        indexes.swap(k, other);
-    }
-    if place % 3 > 0 {
-        let again = random.one_of(&[0, 1, 63, 64, 2_048, 4_094, 4_095]);
-        let at = random.between(0, 4_096) as usize;
-        indexes.insert(at, again);
+    let one = random.one_of(&[0, 1, 63, 64, 2_048, 4_094, 4_095]);
+    let other = random.between(0, 4_096) as usize;
+    match place % 3 {
+        0 => {}
+        1 => indexes.insert(random.one_of(&[one as usize, other]), one),
+        _ => indexes.swap(one as usize, (one as usize + 1 + other % 4_095) % 4_096),
     }
     words.extend(indexes.iter().map(|index| 4 << 28 | index << 6 | 1));
     words.push(6 << 28 | (words.len() as u32 + 1));

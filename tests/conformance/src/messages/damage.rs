@@ -1,9 +1,10 @@
 //! What becomes of a message on the way: bits, bytes and words changed, words dropped, repeated,
-//! swapped, cut and lengthened.
+//! swapped, cut and lengthened; and references that do not rise.
 //!
 //! A message that changes its length is refused by its end alone, so that the end is set right
 //! again after some of these.
 
+use super::order::{disordered, Disorder};
 use crate::random::Random;
 
 /// A kind of damage.
@@ -27,6 +28,8 @@ pub enum Damage {
     Cut,
     /// Bytes or words put on at the end, or before the last word.
     Lengthened,
+    /// The references of a composition in another order, or one of them twice; nothing else.
+    Order(Disorder),
 }
 
 /// The lengths of stretches: a word, a value, a cell, the cells of one more q, and others.
@@ -36,6 +39,9 @@ const STRETCHES: [usize; 9] = [1, 1, 2, 3, 4, 15, 30, 44, 45];
 pub fn damaged(message: &[u8], damage: Damage, random: &mut Random) -> Vec<u8> {
     match damage {
         Damage::Bits | Damage::Bytes => bytes_changed(message, damage, random),
+        Damage::Order(disorder) => {
+            disordered(message, disorder, random).unwrap_or_else(|| message.to_vec())
+        }
         Damage::Cut | Damage::Lengthened if random.between(0, 1) == 0 => {
             bytes_more_or_fewer(message, damage, random)
         }

@@ -1,7 +1,7 @@
 //! The comparison tested: one function that is right, and many that are wrong in one place each.
 //! Every wrong one must be found, and the right one must pass a quarter of the cases.
 //!
-//! The right one goes over the words once, by their places, and keeps marks for the indexes.
+//! The right one goes over the words by their places.
 
 use super::cases::count;
 use super::compare::MessageType;
@@ -25,38 +25,50 @@ const COUNT_33: u8 = 13;
 const COUNT_0: u8 = 14;
 const COUNT_32_REFUSED: u8 = 15;
 const REFERENCE_ZERO_BITS: u8 = 16;
-const INDEX_TWICE: u8 = 17;
-const INDEX_TWICE_APART: u8 = 18;
-const LAST_INDEX_NOT_MARKED: u8 = 19;
-const MARKS_4095: u8 = 20;
-const INDEXES_RISING: u8 = 21;
-const ONE_CELL_FEWER: u8 = 22;
-const ONE_CELL_MORE: u8 = 23;
-const WHOLE_CELLS_ANY_NUMBER: u8 = 24;
-const WIDTH_16_BITS: u8 = 25;
-const WIDTH_65: u8 = 26;
-const WIDTH_0_REFUSED: u8 = 27;
-const RULE_1_ONLY: u8 = 28;
-const TRAILING_WORD: u8 = 29;
-const TRAILING_BYTES: u8 = 30;
-const TYPE_7: u8 = 31;
-const TYPE_0: u8 = 32;
-const TYPE_3_BITS: u8 = 33;
-const SESSION_0_REFUSED: u8 = 34;
-const NUMBER_4096_REFUSED: u8 = 35;
-const LEVEL_5_REFUSED: u8 = 36;
-const NO_REFERENCE_REFUSED: u8 = 37;
-const NO_BYTES_REFUSED: u8 = 38;
-const LONG_LITERAL_REFUSED: u8 = 39;
-const NUMBER_FOR_A_PART: u8 = 40;
-const NUMBER_KIND_NOT_ASKED: u8 = 41;
-const KIND_3_BITS: u8 = 42;
-const LOW_BYTE_FIRST: u8 = 43;
-const EMPTY_ACCEPTED: u8 = 44;
-const NONE_AS_A_QUERY: u8 = 45;
-const MESSAGE_CHANGED: u8 = 46;
-const PAST_THE_MESSAGE: u8 = 47;
-const REFUSED_BY_11: u8 = 48;
+const ORDER_NOT_ASKED: u8 = 17;
+const EQUAL_INDEX_TAKEN: u8 = 18;
+const INDEX_TWICE_ALONE: u8 = 19;
+const INDEX_TWICE_BESIDE_ITSELF: u8 = 20;
+const COMPARED_WITH_THE_FIRST: u8 = 21;
+const WHOLE_WORDS_COMPARED: u8 = 22;
+const COUNTS_COMPARED: u8 = 23;
+const INDEX_LOW_8_BITS: u8 = 24;
+const INDEX_LOW_11_BITS: u8 = 25;
+const NEXT_INDEX_12_BITS: u8 = 26;
+const FIRST_TWO_COMPARED: u8 = 27;
+const LAST_REFERENCE_NOT_COMPARED: u8 = 28;
+const FALLING_ASKED: u8 = 29;
+const RISING_BY_1: u8 = 30;
+const FIRST_INDEX_0: u8 = 31;
+const INDEX_0_REFUSED: u8 = 32;
+const LAST_INDEX_REFUSED: u8 = 33;
+const ONE_CELL_FEWER: u8 = 34;
+const ONE_CELL_MORE: u8 = 35;
+const WHOLE_CELLS_ANY_NUMBER: u8 = 36;
+const WIDTH_16_BITS: u8 = 37;
+const WIDTH_65: u8 = 38;
+const WIDTH_0_REFUSED: u8 = 39;
+const RULE_1_ONLY: u8 = 40;
+const TRAILING_WORD: u8 = 41;
+const TRAILING_BYTES: u8 = 42;
+const TYPE_7: u8 = 43;
+const TYPE_0: u8 = 44;
+const TYPE_3_BITS: u8 = 45;
+const SESSION_0_REFUSED: u8 = 46;
+const NUMBER_4096_REFUSED: u8 = 47;
+const LEVEL_5_REFUSED: u8 = 48;
+const NO_REFERENCE_REFUSED: u8 = 49;
+const NO_BYTES_REFUSED: u8 = 50;
+const LONG_LITERAL_REFUSED: u8 = 51;
+const NUMBER_FOR_A_PART: u8 = 52;
+const NUMBER_KIND_NOT_ASKED: u8 = 53;
+const KIND_3_BITS: u8 = 54;
+const LOW_BYTE_FIRST: u8 = 55;
+const EMPTY_ACCEPTED: u8 = 56;
+const NONE_AS_A_QUERY: u8 = 57;
+const MESSAGE_CHANGED: u8 = 58;
+const PAST_THE_MESSAGE: u8 = 59;
+const REFUSED_BY_11: u8 = 60;
 
 /// The words of a message, with the fault of the function that reads them.
 struct Words {
@@ -145,32 +157,43 @@ impl Words {
         {
             return false;
         }
-        let mut marks = [false; 4_096];
-        let mut before = None;
-        for place in 6..end {
-            if !self.is_reference(place) {
-                return false;
-            }
-            let index = (self.rest(place) >> 6) as usize % 4_096;
-            let mark = if self.has(MARKS_4095) {
-                index % 4_095
-            } else {
-                index
-            };
-            let twice = match self.fault {
-                INDEX_TWICE => false,
-                INDEX_TWICE_APART => before == Some(index),
-                LAST_INDEX_NOT_MARKED => marks[mark] && index != 4_095,
-                INDEXES_RISING => marks[mark] || before.is_some_and(|before| index < before),
-                _ => marks[mark],
-            };
-            if twice {
-                return false;
-            }
-            marks[mark] = true;
-            before = Some(index);
+        let ends_right = match self.fault {
+            FIRST_INDEX_0 => end == 6 || self.index(6) == 0,
+            INDEX_0_REFUSED => end == 6 || self.index(6) > 0,
+            LAST_INDEX_REFUSED => end == 6 || self.index(end - 1) < 4_095,
+            _ => true,
+        };
+        (6..end).all(|place| self.is_reference(place))
+            && (7..end).all(|place| self.rises(place, end))
+            && ends_right
+    }
+
+    fn index(&self, place: usize) -> u32 {
+        self.rest(place) >> 6 & 4_095
+    }
+
+    /// Whether the reference of this place has an index above that of the one before it.
+    fn rises(&self, place: usize, end: usize) -> bool {
+        let (before, index) = (self.index(place - 1), self.index(place));
+        let count = |place: usize| self.rest(place) & 63;
+        match self.fault {
+            ORDER_NOT_ASKED => true,
+            EQUAL_INDEX_TAKEN => before <= index,
+            INDEX_TWICE_ALONE => (6..place).all(|other| self.index(other) != index),
+            INDEX_TWICE_BESIDE_ITSELF => before != index,
+            COMPARED_WITH_THE_FIRST => self.index(6) < index,
+            WHOLE_WORDS_COMPARED => self.rest(place - 1) < self.rest(place),
+            COUNTS_COMPARED => count(place - 1) < count(place),
+            INDEX_LOW_8_BITS => before % 256 < index % 256,
+            INDEX_LOW_11_BITS => before % 2_048 < index % 2_048,
+            // After 4,095 the next may be any.
+            NEXT_INDEX_12_BITS => (before + 1) % 4_096 <= index,
+            FIRST_TWO_COMPARED => before < index || place > 7,
+            LAST_REFERENCE_NOT_COMPARED => before < index || place + 1 == end,
+            FALLING_ASKED => before > index,
+            RISING_BY_1 => before + 1 == index,
+            _ => before < index,
         }
-        true
     }
 
     fn is_bytes(&self, place: usize, last: bool) -> bool {
@@ -299,9 +322,12 @@ fn every_fault_is_found() {
         FIRST_PART_9_BITS FIRST_PART_ANY FIRST_PART_OF_IDS_ONLY END_NOT_COUNTED END_COUNTS_BYTES
         END_NOT_ASKED END_LOW_16_BITS SHORT_WORD_IN_THE_MIDDLE UNUSED_BYTES_NOT_0
         LAST_UNUSED_BYTE_NOT_0 HOW_MANY_0 BYTES_ZERO_BITS COUNT_33 COUNT_0 COUNT_32_REFUSED
-        REFERENCE_ZERO_BITS INDEX_TWICE INDEX_TWICE_APART LAST_INDEX_NOT_MARKED MARKS_4095
-        INDEXES_RISING ONE_CELL_FEWER ONE_CELL_MORE WHOLE_CELLS_ANY_NUMBER WIDTH_16_BITS WIDTH_65
-        WIDTH_0_REFUSED RULE_1_ONLY TRAILING_WORD TRAILING_BYTES TYPE_7 TYPE_0 TYPE_3_BITS
+        REFERENCE_ZERO_BITS ORDER_NOT_ASKED EQUAL_INDEX_TAKEN INDEX_TWICE_ALONE
+        INDEX_TWICE_BESIDE_ITSELF COMPARED_WITH_THE_FIRST WHOLE_WORDS_COMPARED COUNTS_COMPARED
+        INDEX_LOW_8_BITS INDEX_LOW_11_BITS NEXT_INDEX_12_BITS FIRST_TWO_COMPARED
+        LAST_REFERENCE_NOT_COMPARED FALLING_ASKED RISING_BY_1 FIRST_INDEX_0 INDEX_0_REFUSED
+        LAST_INDEX_REFUSED ONE_CELL_FEWER ONE_CELL_MORE WHOLE_CELLS_ANY_NUMBER WIDTH_16_BITS
+        WIDTH_65 WIDTH_0_REFUSED RULE_1_ONLY TRAILING_WORD TRAILING_BYTES TYPE_7 TYPE_0 TYPE_3_BITS
         SESSION_0_REFUSED NUMBER_4096_REFUSED LEVEL_5_REFUSED NO_REFERENCE_REFUSED NO_BYTES_REFUSED
         LONG_LITERAL_REFUSED NUMBER_FOR_A_PART NUMBER_KIND_NOT_ASKED KIND_3_BITS LOW_BYTE_FIRST
         EMPTY_ACCEPTED NONE_AS_A_QUERY MESSAGE_CHANGED PAST_THE_MESSAGE REFUSED_BY_11

@@ -2,6 +2,7 @@
 
 use super::cases::{case, families, Case, Family};
 use super::compare::{compare, MessageType};
+use super::damage::Damage;
 use crate::failure::Failure;
 use crate::two_threads::in_order;
 use reference::rcds::ACCEPTED;
@@ -59,9 +60,12 @@ impl Report {
         assert!(self.long.iter().all(|&count| count > 0), "long messages");
         for family in families() {
             let [accepted, refused] = self.families[&family];
-            let may_be_accepted = !matches!(family, Family::AnyBytes | Family::WrappedWidth);
+            let not_rising = matches!(family, Family::Damaged(Damage::Order(_)));
+            let may_be_accepted =
+                !not_rising && !matches!(family, Family::AnyBytes | Family::WrappedWidth);
             let name = format!("{family:?}");
             assert!(accepted > 0 || !may_be_accepted, "{name}: none accepted");
+            assert!(accepted == 0 || !not_rising, "{name}: one accepted");
             assert!(
                 refused > 0 || family == Family::Valid,
                 "{name}: none refused"

@@ -109,21 +109,22 @@ fn opening(width: u64, random: &mut Random) -> Opening {
     }
 }
 
-/// References to different places of the list: a run of indexes, or any; rising, falling or mixed.
+/// References to different places of the list: the first ones, the last ones, a run of any others, or any.
+/// "References now rise by index" (document 02, request 2).
 fn references(count: u64, random: &mut Random) -> Vec<Reference> {
     let mut indexes: Vec<u32> = (0..4_096).collect();
-    let order = random.between(0, 3);
-    if order > 0 {
-        for k in 0..count {
-            indexes.swap(k as usize, random.between(k, 4_095) as usize);
+    match random.between(0, 4) {
+        0 => {}
+        1 => indexes.rotate_right(count as usize),
+        2 => indexes.rotate_left(random.between(0, 4_096 - count) as usize),
+        _ => {
+            for k in 0..count {
+                indexes.swap(k as usize, random.between(k, 4_095) as usize);
+            }
         }
     }
     indexes.truncate(count as usize);
-    match order {
-        2 => indexes.sort(),
-        3 => indexes.sort_by(|a, b| b.cmp(a)),
-        _ => {}
-    }
+    indexes.sort();
     let most = random.one_of(&[1, 4, 32]);
     let reference = |index: u32| Reference {
         index,

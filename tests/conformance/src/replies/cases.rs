@@ -89,6 +89,10 @@ pub enum Family {
     Damaged,
     /// Messages of types 3 to 6.
     OtherType,
+    /// Compositions whose references rise: the sender's own, or any.
+    Rising,
+    /// The same with references that do not rise, and right otherwise.
+    NotRising,
     /// Buffers that are exactly long enough, one byte short, empty, longer, or of any size.
     Room,
     /// Another string lent than at setup.
@@ -124,7 +128,7 @@ pub enum Family {
 }
 
 /// The families, and how many cases each has.
-pub const FAMILIES: [(Family, usize); 25] = [
+pub const FAMILIES: [(Family, usize); 27] = [
     (Family::Opening, 11 * 7 * 4 * 4),
     (Family::Node, 11 * 7 * 4 * 20),
     (Family::Root, 600),
@@ -134,6 +138,8 @@ pub const FAMILIES: [(Family, usize); 25] = [
     (Family::Absent, ABSENT * 150),
     (Family::Damaged, 1_800),
     (Family::OtherType, 900),
+    (Family::Rising, 300),
+    (Family::NotRising, 600),
     (Family::Room, 2_400),
     (Family::OtherString, OTHER_STRINGS * 250),
     (Family::EndOutside, 300),
@@ -303,6 +309,8 @@ fn message(family: Family, place: usize, sender: &Sender, random: &mut Random) -
         Family::Absent => queries::absent(sender, place, random),
         Family::Damaged => queries::damaged_query(sender, place, random),
         Family::OtherType => queries::other_type(sender, place, random),
+        Family::Rising => queries::composition(sender, random),
+        Family::NotRising => queries::not_rising(sender, place, random),
         Family::OtherString => match place / OTHER_STRINGS % 4 {
             0 => queries::of_the_last_level(sender, random),
             1 => queries::of_a_repeated_node(sender, random),
@@ -339,9 +347,11 @@ fn room(family: Family, place: usize, reply: usize, random: &mut Random) -> usiz
             6 => reply.saturating_sub(random.between(0, 8) as usize),
             _ => any,
         },
-        Family::OtherType | Family::Damaged | Family::Several => {
-            random.one_of(&[0, 8, 100, 3_000, longer])
-        }
+        Family::OtherType
+        | Family::Rising
+        | Family::NotRising
+        | Family::Damaged
+        | Family::Several => random.one_of(&[0, 8, 100, 3_000, longer]),
         Family::OtherString
         | Family::EndOutside
         | Family::AlteredNodes

@@ -7,6 +7,7 @@ use super::compare::Reply;
 use super::report::run;
 use super::setup::held;
 use crate::lent::{part, part_mut};
+use crate::messages::order;
 use reference::fnv::fnv1a;
 use reference::lent::Lent;
 use reference::message::{encode, parse, Body, Message, Opening};
@@ -33,55 +34,57 @@ const CELLS_NOT_ASKED: u8 = 11;
 const CELLS_FOR_WIDTH_64: u8 = 12;
 const MESSAGE_FIRST: u8 = 13;
 const OTHER_TYPES_BY_10: u8 = 14;
-const ROOM_BEFORE_TYPE: u8 = 15;
-const ONLY_HEAD_READ: u8 = 16;
-const NONE_IS_REFUSED: u8 = 17;
-const LEVEL_NOT_ASKED: u8 = 18;
-const LEVEL_3_BITS: u8 = 19;
-const LEVEL_8_BITS: u8 = 20;
-const ID_LOW_32_BITS: u8 = 21;
-const ID_0_FOUND: u8 = 22;
-const LAST_NODE: u8 = 23;
-const OUTSIDE_FOUND: u8 = 24;
-const END_OF_STRING_OUTSIDE: u8 = 25;
-const LEVEL_ABOVE_L_REFUSED: u8 = 26;
-const HIGH_NUMBER_SENT: u8 = 27;
-const NUMBERS_TO_255: u8 = 28;
-const COMPOSITION_AT_LAST_LEVEL: u8 = 29;
-const LEVEL_4_IS_LAST: u8 = 30;
-const ALWAYS_LITERAL: u8 = 31;
-const COUNTS_OF_THE_LIST: u8 = 32;
-const COUNTS_ALWAYS_1: u8 = 33;
-const INDEX_FROM_1: u8 = 34;
-const PAIR_AT_ANY_LEVEL: u8 = 35;
-const REFERENCES_FALLING: u8 = 36;
-const REFERENCE_FOR_EACH_CHILD: u8 = 37;
-const NUMBER_ALWAYS_0: u8 = 38;
-const GRANDCHILDREN_TOO: u8 = 39;
-const LAST_CHILD_LEFT_OUT: u8 = 40;
-const LENGTH_AT_SETUP: u8 = 41;
-const ROOT_OF_THE_STRING: u8 = 42;
-const CELLS_OF_THE_LIST: u8 = 43;
-const CELL_VALUES_REORDERED: u8 = 44;
-const RULE_0: u8 = 45;
-const SESSION_16_BITS: u8 = 46;
-const SESSION_0: u8 = 47;
-const EXACT_ROOM_REFUSED: u8 = 48;
-const WRITTEN_AT_20: u8 = 49;
-const REST_CLEARED: u8 = 50;
-const CLEARED_WHEN_REFUSED: u8 = 51;
-const COUNTS_WORDS: u8 = 52;
-const STATE_CHANGED: u8 = 53;
-const STRING_CHANGED: u8 = 54;
-const NODES_CHANGED: u8 = 55;
-const SHINGLES_CHANGED: u8 = 56;
-const CELLS_CHANGED: u8 = 57;
-const MESSAGE_CHANGED: u8 = 58;
-const PAST_THE_BUFFER: u8 = 59;
-const BEFORE_THE_BUFFER: u8 = 60;
-const FREE_REPLY_NO_MESSAGE: u8 = 61;
-const FREE_ANSWER_14: u8 = 62;
-const FREE_REPLY_OTHER_SESSION: u8 = 63;
+const NOT_RISING_BY_11: u8 = 15;
+const ROOM_BEFORE_TYPE: u8 = 16;
+const ONLY_HEAD_READ: u8 = 17;
+const NONE_IS_REFUSED: u8 = 18;
+const LEVEL_NOT_ASKED: u8 = 19;
+const LEVEL_3_BITS: u8 = 20;
+const LEVEL_8_BITS: u8 = 21;
+const ID_LOW_32_BITS: u8 = 22;
+const ID_0_FOUND: u8 = 23;
+const LAST_NODE: u8 = 24;
+const OUTSIDE_FOUND: u8 = 25;
+const END_OF_STRING_OUTSIDE: u8 = 26;
+const LEVEL_ABOVE_L_REFUSED: u8 = 27;
+const HIGH_NUMBER_SENT: u8 = 28;
+const NUMBERS_TO_255: u8 = 29;
+const COMPOSITION_AT_LAST_LEVEL: u8 = 30;
+const LEVEL_4_IS_LAST: u8 = 31;
+const ALWAYS_LITERAL: u8 = 32;
+const COUNTS_OF_THE_LIST: u8 = 33;
+const COUNTS_ALWAYS_1: u8 = 34;
+const INDEX_FROM_1: u8 = 35;
+const PAIR_AT_ANY_LEVEL: u8 = 36;
+const REFERENCES_FALLING: u8 = 37;
+const REFERENCES_AS_THE_CHILDREN_COME: u8 = 38;
+const REFERENCE_FOR_EACH_CHILD: u8 = 39;
+const NUMBER_ALWAYS_0: u8 = 40;
+const GRANDCHILDREN_TOO: u8 = 41;
+const LAST_CHILD_LEFT_OUT: u8 = 42;
+const LENGTH_AT_SETUP: u8 = 43;
+const ROOT_OF_THE_STRING: u8 = 44;
+const CELLS_OF_THE_LIST: u8 = 45;
+const CELL_VALUES_REORDERED: u8 = 46;
+const RULE_0: u8 = 47;
+const SESSION_16_BITS: u8 = 48;
+const SESSION_0: u8 = 49;
+const EXACT_ROOM_REFUSED: u8 = 50;
+const WRITTEN_AT_20: u8 = 51;
+const REST_CLEARED: u8 = 52;
+const CLEARED_WHEN_REFUSED: u8 = 53;
+const COUNTS_WORDS: u8 = 54;
+const STATE_CHANGED: u8 = 55;
+const STRING_CHANGED: u8 = 56;
+const NODES_CHANGED: u8 = 57;
+const SHINGLES_CHANGED: u8 = 58;
+const CELLS_CHANGED: u8 = 59;
+const MESSAGE_CHANGED: u8 = 60;
+const PAST_THE_BUFFER: u8 = 61;
+const BEFORE_THE_BUFFER: u8 = 62;
+const FREE_REPLY_NO_MESSAGE: u8 = 63;
+const FREE_ANSWER_14: u8 = 64;
+const FREE_REPLY_OTHER_SESSION: u8 = 65;
 
 /// The settings that a state holds, and the width.
 fn settings(fault: u8, state: &[u8]) -> (Settings, u64) {
@@ -121,7 +124,8 @@ fn refused(fault: u8, settings: &Settings, width: u64, state: &[u8], lent: &Lent
     asked.refused(&with, of_width)
 }
 
-/// What a message asks: the reference's reading, or one that looks at the head alone.
+/// What a message asks: the reference's reading, or one that looks at the head alone, or does not ask in which
+/// order references stand.
 fn read(fault: u8, message: &[u8]) -> Option<Message> {
     if fault == ONLY_HEAD_READ && message.len() >= 4 {
         let session = u32::from_be_bytes([0, message[1], message[2], message[3]]);
@@ -132,7 +136,10 @@ fn read(fault: u8, message: &[u8]) -> Option<Message> {
             });
         }
     }
-    parse(message)
+    match fault {
+        NOT_RISING_BY_11 => parse(&order::put_in_order(message)),
+        _ => parse(message),
+    }
 }
 
 fn opening(fault: u8, settings: &Settings, width: u64, lent: &Lent) -> Body {
@@ -251,10 +258,7 @@ fn composition(
         };
         references.extend(vec![one; times]);
     }
-    references.sort_by_key(|reference| reference.index);
-    if fault == REFERENCES_FALLING {
-        references.reverse();
-    }
+    put_in_order(fault, &mut references, &list, &ids);
     Some((
         match fault {
             NUMBER_ALWAYS_0 => 0,
@@ -262,6 +266,23 @@ fn composition(
         },
         references,
     ))
+}
+
+/// References rising by index; or falling, or as these children first name them.
+fn put_in_order(fault: u8, references: &mut [Reference], list: &[Shingle], ids: &[u64]) {
+    references.sort_by_key(|reference| reference.index);
+    match fault {
+        REFERENCES_FALLING => references.reverse(),
+        REFERENCES_AS_THE_CHILDREN_COME => {
+            let children = pairs(ids);
+            references.sort_by_key(|reference| {
+                let named = list[reference.index as usize];
+                let named = (named.previous, named.own);
+                children.iter().position(|pair| *pair == named)
+            });
+        }
+        _ => {}
+    }
 }
 
 /// What answers a node query, or the question that refuses it.
@@ -448,16 +469,17 @@ fn every_fault_is_found() {
     let functions = functions! {
         STATE_LOW_BYTE_FIRST STATE_READ_IN_PARTS SHORT_STATE_BY_7 WIDTH_LOW_32_BITS NOMINAL_NOT_ASKED
         WIDTH_NOT_ASKED STRING_NOT_ASKED STRING_65536_REFUSED NODES_NOT_ASKED SHINGLES_NOT_ASKED
-        CELLS_NOT_ASKED CELLS_FOR_WIDTH_64 MESSAGE_FIRST OTHER_TYPES_BY_10 ROOM_BEFORE_TYPE
-        ONLY_HEAD_READ NONE_IS_REFUSED LEVEL_NOT_ASKED LEVEL_3_BITS LEVEL_8_BITS ID_LOW_32_BITS
-        ID_0_FOUND LAST_NODE OUTSIDE_FOUND END_OF_STRING_OUTSIDE LEVEL_ABOVE_L_REFUSED HIGH_NUMBER_SENT
-        NUMBERS_TO_255 COMPOSITION_AT_LAST_LEVEL LEVEL_4_IS_LAST ALWAYS_LITERAL COUNTS_OF_THE_LIST
-        COUNTS_ALWAYS_1 INDEX_FROM_1 PAIR_AT_ANY_LEVEL REFERENCES_FALLING REFERENCE_FOR_EACH_CHILD
-        NUMBER_ALWAYS_0 GRANDCHILDREN_TOO LAST_CHILD_LEFT_OUT LENGTH_AT_SETUP ROOT_OF_THE_STRING
-        CELLS_OF_THE_LIST CELL_VALUES_REORDERED RULE_0 SESSION_16_BITS SESSION_0 EXACT_ROOM_REFUSED
-        WRITTEN_AT_20 REST_CLEARED CLEARED_WHEN_REFUSED COUNTS_WORDS STATE_CHANGED STRING_CHANGED
-        NODES_CHANGED SHINGLES_CHANGED CELLS_CHANGED MESSAGE_CHANGED PAST_THE_BUFFER
-        BEFORE_THE_BUFFER FREE_REPLY_NO_MESSAGE FREE_ANSWER_14 FREE_REPLY_OTHER_SESSION
+        CELLS_NOT_ASKED CELLS_FOR_WIDTH_64 MESSAGE_FIRST OTHER_TYPES_BY_10 NOT_RISING_BY_11
+        ROOM_BEFORE_TYPE ONLY_HEAD_READ NONE_IS_REFUSED LEVEL_NOT_ASKED LEVEL_3_BITS LEVEL_8_BITS
+        ID_LOW_32_BITS ID_0_FOUND LAST_NODE OUTSIDE_FOUND END_OF_STRING_OUTSIDE LEVEL_ABOVE_L_REFUSED
+        HIGH_NUMBER_SENT NUMBERS_TO_255 COMPOSITION_AT_LAST_LEVEL LEVEL_4_IS_LAST ALWAYS_LITERAL
+        COUNTS_OF_THE_LIST COUNTS_ALWAYS_1 INDEX_FROM_1 PAIR_AT_ANY_LEVEL REFERENCES_FALLING
+        REFERENCES_AS_THE_CHILDREN_COME REFERENCE_FOR_EACH_CHILD NUMBER_ALWAYS_0 GRANDCHILDREN_TOO
+        LAST_CHILD_LEFT_OUT LENGTH_AT_SETUP ROOT_OF_THE_STRING CELLS_OF_THE_LIST CELL_VALUES_REORDERED
+        RULE_0 SESSION_16_BITS SESSION_0 EXACT_ROOM_REFUSED WRITTEN_AT_20 REST_CLEARED
+        CLEARED_WHEN_REFUSED COUNTS_WORDS STATE_CHANGED STRING_CHANGED NODES_CHANGED SHINGLES_CHANGED
+        CELLS_CHANGED MESSAGE_CHANGED PAST_THE_BUFFER BEFORE_THE_BUFFER FREE_REPLY_NO_MESSAGE
+        FREE_ANSWER_14 FREE_REPLY_OTHER_SESSION
     };
     let mut passed = Vec::new();
     for (name, function) in functions {

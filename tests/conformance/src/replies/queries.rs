@@ -2,6 +2,7 @@
 
 use super::setup::Sender;
 use crate::messages::damage::{damaged, Damage};
+use crate::messages::order::{disordered, DISORDERS};
 use crate::messages::valid::{self, SMALL};
 use crate::random::Random;
 use reference::message::{encode, parse, Body, Message};
@@ -10,7 +11,7 @@ use reference::trail::{number_of_order, MOST_NUMBER};
 use reference::tree::Node;
 use std::collections::BTreeMap;
 
-/// All kinds of damage.
+/// The kinds of damage that any message can have.
 const DAMAGES: [Damage; 9] = [
     Damage::Bits,
     Damage::Bytes,
@@ -178,15 +179,43 @@ pub fn other_type(sender: &Sender, place: usize, random: &mut Random) -> Vec<u8>
     message
 }
 
-/// What the sender itself replies to a query.
+/// A composition whose references rise: the sender's own, where the node has one, or any.
+pub fn composition(sender: &Sender, random: &mut Random) -> Vec<u8> {
+    let level = random.between(0, sender.settings.levels - 1) as usize;
+    let query = of_any_level(sender, level, random);
+    let own = replied(sender, &query);
+    let body = parse(&own).map(|reply| reply.body);
+    match body {
+        Some(Body::Composition { .. }) if random.percent(50) => own,
+        _ => encode(&valid::message(4, &SMALL, random)),
+    }
+}
+
+/// A composition whose references do not rise, and which is right otherwise; the disorders in turn.
+pub fn not_rising(sender: &Sender, place: usize, random: &mut Random) -> Vec<u8> {
+    let disorder = DISORDERS[place % DISORDERS.len()];
+    loop {
+        let whole = composition(sender, random);
+        if let Some(changed) = disordered(&whole, disorder, random) {
+            return changed;
+        }
+    }
+}
+
+/// What the sender itself replies to a query for any of its nodes.
 fn own_reply(sender: &Sender, place: usize, random: &mut Random) -> Vec<u8> {
     let query = any(sender, place, random);
-    let mut buffer = vec![0; sender.reply_length(&query)];
+    replied(sender, &query)
+}
+
+/// What the sender itself replies to a query.
+fn replied(sender: &Sender, query: &[u8]) -> Vec<u8> {
+    let mut buffer = vec![0; sender.reply_length(query)];
     let _ = reference::reply::reply(
         &sender.settings,
         sender.width,
         &sender.lent,
-        &query,
+        query,
         &mut buffer,
     );
     assert!(parse(&buffer).is_some(), "a reply is a message");

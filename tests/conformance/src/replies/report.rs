@@ -19,6 +19,9 @@ pub struct Report {
     /// Accepted, by the type of the reply.
     accepted: BTreeMap<u32, usize>,
     refused: BTreeMap<u64, usize>,
+    /// Compositions whose references rise, refused by 11, and do not rise, refused by 10.
+    rising_by_11: usize,
+    not_rising_by_10: usize,
     /// Cases of each comparison: accepted, refused by 20, and how many are as the reference has them.
     compared: BTreeMap<Compared, [usize; 3]>,
     /// Accepted replies that are no message.
@@ -60,6 +63,11 @@ impl Report {
             counts[usize::from(refused)] += 1;
             counts[2] += usize::from(done.same);
         }
+        match (case.family, done.answer) {
+            (Family::Rising, 11) => self.rising_by_11 += 1,
+            (Family::NotRising, 10) => self.not_rising_by_10 += 1,
+            _ => {}
+        }
         if refused {
             *self.refused.entry(done.answer).or_default() += 1;
             return;
@@ -95,6 +103,13 @@ impl Report {
         );
         assert!(self.largest_count >= 16, "no large count of a reference");
         assert_eq!(self.compared.len(), 3, "comparisons");
+        let compositions = [
+            (Family::Rising, self.rising_by_11),
+            (Family::NotRising, self.not_rising_by_10),
+        ];
+        for (family, count) in compositions {
+            assert_eq!(self.families[&family], [0, count], "{family:?}");
+        }
         let contents = self.contents.len();
         assert_eq!(contents, KINDS.len(), "a kind of content did not occur");
         for (family, _) in FAMILIES {
@@ -111,7 +126,10 @@ impl Report {
 
 /// Whether some messages of the family are replied to.
 fn is_accepted(family: Family) -> bool {
-    family != Family::OtherType
+    !matches!(
+        family,
+        Family::OtherType | Family::Rising | Family::NotRising
+    )
 }
 
 /// Whether the family has so few cases that none of them may be refused.
@@ -138,7 +156,7 @@ impl fmt::Display for Report {
             .map(|(family, [accepted, refused])| format!("{family:?} {accepted} and {refused}"));
         write!(
             f,
-            "{} cases: accepted {} and {} that are no message ({} fill the buffer, {} literals for a number above 4,095, {} empty, {} of 65,536 bytes; at most {} references, largest count {}); refused {}; accepted, refused by 20, and as the reference has them of each comparison: {}; accepted and refused of each family: {}",
+            "{} cases: accepted {} and {} that are no message ({} fill the buffer, {} literals for a number above 4,095, {} empty, {} of 65,536 bytes; at most {} references, largest count {}); refused {}; compositions that rise refused by 11 {} and others by 10 {}; accepted, refused by 20, and as the reference has them of each comparison: {}; accepted and refused of each family: {}",
             self.cases,
             list(accepted.collect()),
             self.no_messages,
@@ -149,6 +167,8 @@ impl fmt::Display for Report {
             self.most_references,
             self.largest_count,
             list(refused.collect()),
+            self.rising_by_11,
+            self.not_rising_by_10,
             compared.collect::<Vec<_>>().join("; "),
             list(families.collect()),
         )

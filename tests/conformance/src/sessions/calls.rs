@@ -1,5 +1,6 @@
-//! The five calls of a session, as C declares them.
+//! The five calls of a session and the type of its messages, as C declares them.
 
+pub use crate::messages::MessageType;
 pub use crate::replies::Reply;
 pub use crate::setups::SenderSetup;
 
@@ -65,4 +66,5 @@ pub struct Calls {
     pub receiver_setup: ReceiverSetup,
     pub query: Query,
     pub take: Take,
+    pub message_type: MessageType,
 }

@@ -93,6 +93,8 @@ pub enum Family {
     Link,
     /// The same with forged and damaged messages.
     Forged,
+    /// Before each composition the same with references that do not rise, at every call that reads it.
+    NotRising,
     /// Forged messages, over altered strings, tables and outputs.
     AlteredMemory,
     /// Forged messages, over altered states.
@@ -128,10 +130,11 @@ pub enum Family {
 }
 
 /// The families, and how many cases each has.
-pub const FAMILIES: [(Family, usize); 19] = [
+pub const FAMILIES: [(Family, usize); 20] = [
     (Family::Plain, 11 * 7 * 4 * 12),
     (Family::Link, 4_000),
     (Family::Forged, 7_000),
+    (Family::NotRising, 600),
     (Family::AlteredMemory, 4_000),
     (Family::AlteredState, 5_000),
     (Family::Everything, 2_500),
@@ -401,7 +404,7 @@ fn course(family: Family, random: &mut Random) -> Course {
             rounds: 120,
             ..Course::default()
         },
-        Family::Link => link,
+        Family::Link | Family::NotRising => link,
         Family::Forged => Course {
             forged: chance,
             ..link

@@ -2,6 +2,7 @@
 
 use super::forged::Forgery;
 use crate::lent::{is_shared, Lent};
+use crate::messages::order::Disorder;
 use reference::rcds::ACCEPTED;
 use std::collections::BTreeMap;
 
@@ -13,15 +14,17 @@ pub enum Call {
     ReceiverSetup,
     Query,
     Take,
+    MessageType,
 }
 
 /// All of them.
-pub const CALLS: [Call; 5] = [
+pub const CALLS: [Call; 6] = [
     Call::SenderSetup,
     Call::Reply,
     Call::ReceiverSetup,
     Call::Query,
     Call::Take,
+    Call::MessageType,
 ];
 
 impl Call {
@@ -32,6 +35,7 @@ impl Call {
             Call::ReceiverSetup => "rcds_receiver_setup",
             Call::Query => "rcds_query",
             Call::Take => "rcds_take",
+            Call::MessageType => "rcds_message_type",
         }
     }
 
@@ -46,6 +50,7 @@ impl Call {
                 let refused = (1..=7).chain(9..=19);
                 [0, ACCEPTED].into_iter().chain(refused).collect()
             }
+            Call::MessageType => vec![ACCEPTED, 10],
         }
     }
 }
@@ -74,10 +79,12 @@ pub enum Lending {
     Shared,
 }
 
-/// The lendings that the call can have: a setup reads one piece alone.
+/// The lendings that the call can have: a setup reads one piece alone, and the type is asked here of
+/// compositions alone.
 pub fn lendings(call: Call) -> &'static [Lending] {
     match call {
         Call::SenderSetup | Call::ReceiverSetup => &[Lending::NullRead, Lending::NullWritten],
+        Call::MessageType => &[],
         _ => &[Lending::NullRead, Lending::NullWritten, Lending::Shared],
     }
 }
@@ -110,6 +117,10 @@ pub struct Counts {
     pub altered_states: usize,
     /// Messages refused by one condition alone.
     pub alone: BTreeMap<Alone, usize>,
+    /// Compositions whose references do not rise, met by 10 at every call and nothing changed; and the
+    /// genuine ones that were accepted right after such.
+    pub not_rising: BTreeMap<Disorder, usize>,
+    pub accepted_after: usize,
     /// Calls with pieces lent so.
     pub lendings: BTreeMap<(Call, Lending), usize>,
 }
@@ -148,6 +159,7 @@ impl Counts {
         add_each(&mut self.replied, &other.replied);
         add_each(&mut self.accepted, &other.accepted);
         add_each(&mut self.alone, &other.alone);
+        add_each(&mut self.not_rising, &other.not_rising);
         add_each(&mut self.lendings, &other.lendings);
         for (kind, [accepted, refused]) in &other.forged {
             let counts = self.forged.entry(*kind).or_default();
@@ -165,6 +177,7 @@ impl Counts {
             (&mut self.numbers, other.numbers),
             (&mut self.altered_memory, other.altered_memory),
             (&mut self.altered_states, other.altered_states),
+            (&mut self.accepted_after, other.accepted_after),
         ];
         sums.into_iter().for_each(|(sum, more)| *sum += more);
     }

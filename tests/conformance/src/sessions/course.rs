@@ -8,6 +8,7 @@ use super::end::End;
 use super::endless;
 use super::forged::{forged, Known};
 use super::lockstep::{Broken, Lockstep, Outcome};
+use super::not_rising;
 use crate::failure::{first_bytes, Failure};
 use crate::random::Random;
 use crate::replies::setup::held;
@@ -252,6 +253,9 @@ impl<'a> Session<'a> {
     /// Takes a message, or one that is forged in its place; over altered memory or an altered state,
     /// where the case says so.
     fn take(&mut self, message: &[u8]) -> Outcome<u64> {
+        if self.case.family == Family::NotRising {
+            return self.take_after_not_rising(message);
+        }
         let saved = self.alter();
         let forged = match self.random.percent(self.course.forged) {
             true => self.forge(),
@@ -270,6 +274,17 @@ impl<'a> Session<'a> {
         if let Some(saved) = saved {
             self.set_right(saved, answer);
         }
+        Ok(answer)
+    }
+
+    /// Takes a message after the same with references that do not rise, if it is a composition. Those come
+    /// late as well.
+    fn take_after_not_rising(&mut self, message: &[u8]) -> Outcome<u64> {
+        let met = not_rising::lend(&mut self.ends, message, &mut self.random)?;
+        let answer = self.ends.take(message)?;
+        let accepted = answer == 0 || answer >= ACCEPTED;
+        self.ends.counts.accepted_after += usize::from(accepted && !met.is_empty());
+        self.written.extend(met);
         Ok(answer)
     }
 

@@ -1,6 +1,7 @@
 //! Forged and damaged messages for a receiver.
 
 use crate::messages::damage::{damaged, Damage};
+use crate::messages::order::in_any_disorder;
 use crate::messages::valid::{self, SMALL};
 use crate::random::Random;
 use reference::message::{encode, Body, Message, Opening};
@@ -35,7 +36,8 @@ pub enum Forgery {
     OtherList,
     OwnTwice,
     /// A reply to a node's query: a none, a literal of any bytes, one of all bytes that are left, a
-    /// composition of another number, with other counts or references, or of any references.
+    /// composition of another number, with other counts or references, of any references, or with
+    /// references that do not rise.
     None,
     Literal,
     Rest,
@@ -43,6 +45,7 @@ pub enum Forgery {
     Counts,
     References,
     Composition,
+    Order,
 }
 
 /// Of every message, of an opening, and of a reply to a node's query.
@@ -65,7 +68,7 @@ const OF_OPENINGS: [Forgery; 7] = [
     Forgery::OtherList,
     Forgery::OwnTwice,
 ];
-const OF_NODES: [Forgery; 7] = [
+const OF_NODES: [Forgery; 8] = [
     Forgery::None,
     Forgery::Literal,
     Forgery::Rest,
@@ -73,6 +76,7 @@ const OF_NODES: [Forgery; 7] = [
     Forgery::Counts,
     Forgery::References,
     Forgery::Composition,
+    Forgery::Order,
 ];
 
 /// All of them.
@@ -142,10 +146,7 @@ pub fn forged(known: &Known, random: &mut Random) -> (Forgery, Vec<u8>) {
             change_opening(kind, opening, known, random);
             encode(&message)
         }
-        (_, body) => {
-            *body = node_reply(kind, body, known, random);
-            encode(&message)
-        }
+        _ => node_message(kind, message, known, random),
     };
     (kind, bytes)
 }
@@ -273,7 +274,18 @@ fn other_list(list: &[Shingle], random: &mut Random) -> Vec<Shingle> {
     other
 }
 
-/// A reply that is forged for the node of the genuine one.
+/// The bytes of a reply that is forged for the node of the genuine one.
+fn node_message(kind: Forgery, genuine: Message, known: &Known, random: &mut Random) -> Vec<u8> {
+    let body = node_reply(kind, &genuine.body, known, random);
+    let whole = encode(&Message { body, ..genuine });
+    let disordered = match kind {
+        Forgery::Order => in_any_disorder(&whole, random),
+        _ => None,
+    };
+    disordered.map_or(whole, |(_, changed)| changed)
+}
+
+/// What such a reply says, its references in order or nearly always so.
 fn node_reply(kind: Forgery, genuine: &Body, known: &Known, random: &mut Random) -> Body {
     let mut body = genuine.clone();
     let (level, id) = match &body {
@@ -335,6 +347,7 @@ fn node_reply(kind: Forgery, genuine: &Body, known: &Known, random: &mut Random)
             other_references(references, known.list, random);
             body
         }
+        (Forgery::Order, Body::Composition { .. }) => body,
         _ => composition(level, id, known.list, random),
     }
 }
@@ -362,19 +375,26 @@ fn literal(level: u32, id: u64, rest: usize, random: &mut Random) -> Body {
     Body::Literal { level, id, bytes }
 }
 
-/// One reference fewer or more, to another place of the list or past its end, another order, or none.
+/// Nearly always rising by index, so that the questions after 10 are reached; else as they come.
+fn mostly_rising(references: &mut Vec<Reference>, random: &mut Random) {
+    if random.percent(95) {
+        references.sort_by_key(|reference| reference.index);
+        references.dedup_by_key(|reference| reference.index);
+    }
+}
+
+/// One reference fewer or more, to another place of the list or past its end, or none.
 fn other_references(references: &mut Vec<Reference>, list: &[Shingle], random: &mut Random) {
     let place = random.between(0, references.len() as u64) as usize;
     let any = random.between(0, 4_095.min(list.len() as u64)) as u32;
     let index = random.one_of(&[any, any, 0, 4_095]);
-    match random.between(0, 5) {
+    match random.between(0, 3) {
         0 if place < references.len() => drop(references.remove(place)),
         1 if place < references.len() => references[place].index = index,
-        2 => references.reverse(),
-        3 => references.rotate_left(place),
-        4 => references.clear(),
+        2 => references.clear(),
         _ => references.insert(place, Reference { index, count: 1 }),
     }
+    mostly_rising(references, random);
 }
 
 /// References to shingles of the list, of the right level more often than not, few or many.
@@ -390,15 +410,13 @@ fn composition(level: u32, id: u64, list: &[Shingle], random: &mut Random) -> Bo
             break;
         }
         let index = random.one_of(&places);
-        let twice = references.iter().any(|r| r.index == index as u32);
-        if !twice || random.percent(5) {
-            let most = list[index].count.clamp(1, 32);
-            references.push(Reference {
-                index: index as u32,
-                count: random.by_size(1, most) as u32,
-            });
-        }
+        let most = list[index].count.clamp(1, 32);
+        references.push(Reference {
+            index: index as u32,
+            count: random.by_size(1, most) as u32,
+        });
     }
+    mostly_rising(&mut references, random);
     let number = random.one_of(&[0, 0, 0, 1, 4_095, 4_096]);
     Body::Composition {
         level,

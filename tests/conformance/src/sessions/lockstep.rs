@@ -313,6 +313,19 @@ impl<'a> Lockstep<'a> {
         Ok(answer)
     }
 
+    /// The type of a message.
+    pub fn message_type(&mut self, message: &[u8]) -> Outcome<u64> {
+        let mut lent = piece("message", message, &mut self.random);
+        let read = lent.pointer().cast_const();
+        self.keep_rows();
+        self.counts.lent(Call::MessageType, &[read], &[]);
+        // The message is there in full, in memory of its own.
+        let given = timed(|| unsafe { (self.calls.message_type)(read, lent.length()) });
+        let expected = rcds::rcds_message_type(message);
+        let rest = lent.expect_unchanged();
+        self.compared(Call::MessageType, (expected, given), message, rest)
+    }
+
     /// Counts a message that one condition of its question refused, and nothing else.
     fn refused(&mut self, answer: u64, before: &Receiver, message: &[u8]) {
         let Some(Message { body, .. }) = parse(message) else {

@@ -9,6 +9,7 @@ mod end;
 mod endless;
 mod forged;
 mod lockstep;
+mod not_rising;
 mod report;
 mod strings;
 mod why;

@@ -6,6 +6,7 @@ use super::counts::{lendings, Call, Counts, ALONE, CALLS};
 use super::course;
 use super::forged::forgeries;
 use crate::failure::Failure;
+use crate::messages::order::DISORDERS;
 use crate::two_threads::in_order;
 use reference::rcds::ACCEPTED;
 use std::collections::BTreeMap;
@@ -65,23 +66,34 @@ impl Report {
             ("literal above the last level", counts.literals_above),
             ("empty literal", counts.literals_empty),
             ("trail number above 0", counts.numbers),
+            ("accepted after one not rising", counts.accepted_after),
         ];
         for (what, count) in some {
             assert!(count > 0, "{what}: none");
         }
-        for alone in ALONE {
-            assert!(counts.alone.contains_key(&alone), "{alone:?} alone: none");
-        }
-        for call in CALLS {
-            for &lending in lendings(call) {
-                let is = counts.lendings.contains_key(&(call, lending));
-                assert!(is, "{}, {lending:?}: none", call.name());
-            }
-        }
+        assert_kinds(counts);
         let never = [Family::Endless, Family::Announced, Family::Sum];
         for (family, _) in FAMILIES {
             let [_, handed] = self.families[&family];
             assert!(handed > 0 || never.contains(&family), "{family:?}");
+        }
+    }
+}
+
+/// That every condition refused a message alone, that references came in every disorder, and that pieces
+/// were lent in every way.
+fn assert_kinds(counts: &Counts) {
+    for alone in ALONE {
+        assert!(counts.alone.contains_key(&alone), "{alone:?} alone: none");
+    }
+    for disorder in DISORDERS {
+        let met = counts.not_rising.contains_key(&disorder);
+        assert!(met, "{disorder:?} met by 10: none");
+    }
+    for call in CALLS {
+        for &lending in lendings(call) {
+            let is = counts.lendings.contains_key(&(call, lending));
+            assert!(is, "{}, {lending:?}: none", call.name());
         }
     }
 }
@@ -95,7 +107,7 @@ impl fmt::Display for Report {
             .map(|(family, [sessions, handed])| format!("{family:?} {sessions} and {handed}"));
         write!(
             f,
-            "{} sessions, {calls} calls; handed over {} strings ({} the sender's, {} by the opening alone, the longest of {} bytes); at most {} replies accepted and {} nodes pending; accepted types {}; literals above the last level {}, empty {}, compositions of a number above 0 {}; taken over altered memory {} and altered states {}; refused by one condition alone: {}; pieces lent as null and in one memory: {}; sessions and hand-overs of each family: {}; forged messages, accepted and refused: {}",
+            "{} sessions, {calls} calls; handed over {} strings ({} the sender's, {} by the opening alone, the longest of {} bytes); at most {} replies accepted and {} nodes pending; accepted types {}; literals above the last level {}, empty {}, compositions of a number above 0 {}; taken over altered memory {} and altered states {}; refused by one condition alone: {}; compositions not rising, met by 10 at every call: {}, and accepted right after {}; pieces lent as null and in one memory: {}; sessions and hand-overs of each family: {}; forged messages, accepted and refused: {}",
             self.sessions,
             counts.of(Call::Take, ACCEPTED),
             counts.senders_string,
@@ -109,7 +121,9 @@ impl fmt::Display for Report {
             counts.numbers,
             counts.altered_memory,
             counts.altered_states,
-            alone(counts),
+            each(&counts.alone),
+            each(&counts.not_rising),
+            counts.accepted_after,
             lent(counts),
             families.collect::<Vec<_>>().join(", "),
             forged(counts),
@@ -144,10 +158,9 @@ fn forged(counts: &Counts) -> String {
     kinds.collect::<Vec<_>>().join(", ")
 }
 
-fn alone(counts: &Counts) -> String {
-    let alone = counts.alone.iter();
-    let alone = alone.map(|(alone, count)| format!("{alone:?} {count}"));
-    alone.collect::<Vec<_>>().join(", ")
+fn each<K: fmt::Debug>(counts: &BTreeMap<K, usize>) -> String {
+    let each = counts.iter().map(|(key, count)| format!("{key:?} {count}"));
+    each.collect::<Vec<_>>().join(", ")
 }
 
 fn lent(counts: &Counts) -> String {

@@ -69,8 +69,11 @@ fn literals() {
 fn compositions() {
     let mut buffer = [170u8; 64];
     let ten: Vec<(u32, u32)> = (1..=10).map(|index| (index, 1)).collect();
-    let cases: [(u32, Vec<(u32, u32)>); 5] = [
+    // "References now rise by index" (document 02, request 2): the third's fall, and the fifth has an
+    // index twice.
+    let cases: [(u32, Vec<(u32, u32)>); 6] = [
         (0, vec![(0, 1)]),
+        (4095, vec![(0, 1), (1, 31), (7, 2), (12, 3), (4095, 32)]),
         (4095, vec![(4095, 32), (0, 1), (7, 2), (12, 3), (1, 31)]),
         (4096, vec![]),
         (1, vec![(3, 1), (3, 1)]),

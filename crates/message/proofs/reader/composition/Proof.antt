@@ -3,7 +3,7 @@ use mathlib.Core.Path.{_∙_, sym}
 use native.Mathlib.Omega.{arith}
 use borrow.Author.Tests.{not-true, not-false}
 use borrow.Author.Needs.{needs}
-use Rattle.message.proofs.Answers.{composition-no-pair, composition-no-number, composition-twice, composition-no-end, composition-read}
+use Rattle.message.proofs.Answers.{composition-no-pair, composition-no-number, composition-falls, composition-no-end, composition-read}
 use Rattle.message.proofs.reader.composition.Statement.{statement}
 use Rattle.message.proofs.reader.composition.Tie as tie
 
@@ -23,7 +23,7 @@ reference-run-requires : tie.Need-reference-run-requires
 reference-run-requires c κs = search needs
 
 returns-3 : tie.Need-returns-3
-returns-3 c = composition-twice _ (c .before .before .before .before .before .before .before .before .args .session) (sym (c .before .before .before .before .before .before .pair .ensures) ∙ not-false _ (c .before .before .before .before .before .if1 .left)) (sym (c .before .before .before .before .is-number .ensures) ∙ not-false _ (c .before .before .before .if2 .left)) _ _ (c .before .before .reference-run .ensures) (not-true _ (c .if3 .taken))
+returns-3 c = composition-falls _ (c .before .before .before .before .before .before .before .before .args .session) (sym (c .before .before .before .before .before .before .pair .ensures) ∙ not-false _ (c .before .before .before .before .before .if1 .left)) (sym (c .before .before .before .before .is-number .ensures) ∙ not-false _ (c .before .before .before .if2 .left)) _ _ (c .before .before .reference-run .ensures) (not-true _ (c .if3 .taken))
 
 is-end-requires : tie.Need-is-end-requires
 is-end-requires c κs = search needs

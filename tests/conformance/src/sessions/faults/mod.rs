@@ -5,7 +5,7 @@
 mod receiver;
 mod taking;
 
-use super::calls::{Calls, Query, ReceiverSetup, Reply, SenderSetup, Take};
+use super::calls::{Calls, MessageType, Query, ReceiverSetup, Reply, SenderSetup, Take};
 use super::cases::count;
 use super::report::run;
 use crate::lent::{part, part_mut};
@@ -39,6 +39,9 @@ faults! {
     // 10 and 11.
     TEN_FIRST ELEVEN_FIRST SESSION_NOT_ASKED SESSION_LOW_16_BITS SESSION_LOW_24_BITS LEVEL_NOT_ASKED
     ID_NOT_ASKED ID_LOW_32_BITS OPENING_AGAIN QUERY_TAKEN LAST_AGAIN ZEROED_AT_11 ENDED_AT_11
+    // 10, where references do not rise.
+    FALLING_TAKEN DOUBLED_TAKEN FALLING_AFTER_11 FALLING_BY_17 FALLING_ENDED_AT_10 FALLING_ZEROED_AT_10
+    FALLING_COUNTED FALLING_REPLIED_BY_11 FALLING_OF_TYPE_4
     // An opening: 12 to 14, and the list that it leaves.
     FOURTEEN_FIRST FOURTEEN_EARLY THIRTEEN_AFTER_FOURTEEN NOMINAL_NOT_ASKED WINDOW_LOW_BYTE
     WIDTH_NOT_ASKED RULE_NOT_ASKED ONLY_THE_BUFFER_ASKED ONLY_THE_LIMIT_ASKED EXACT_OUTPUT_REFUSED
@@ -143,6 +146,7 @@ unsafe extern "C" fn reply<const FAULT: u8>(
     match FAULT {
         REPLY_OF_SESSION_0 if answer > 20 => out[1..4].fill(0),
         SENDER_STATE_CHANGED if state_len > 0 => *state.cast_mut() ^= 1,
+        FALLING_REPLIED_BY_11 if answer == 10 && taking::falls(message) => return 11,
         _ => {}
     }
     answer
@@ -263,7 +267,15 @@ unsafe extern "C" fn take<const FAULT: u8>(
     answer
 }
 
-/// The five calls with one fault.
+unsafe extern "C" fn message_type<const FAULT: u8>(message: *const u8, message_len: usize) -> u64 {
+    let message = part(message, message_len);
+    match FAULT == FALLING_OF_TYPE_4 && taking::falls(message) {
+        true => receiver::ACCEPTED + 4,
+        false => rcds::rcds_message_type(message),
+    }
+}
+
+/// The calls with one fault.
 const fn calls<const FAULT: u8>() -> Calls {
     Calls {
         sender_setup: sender_setup::<FAULT> as SenderSetup,
@@ -271,6 +283,7 @@ const fn calls<const FAULT: u8>() -> Calls {
         receiver_setup: receiver_setup::<FAULT> as ReceiverSetup,
         query: query::<FAULT> as Query,
         take: take::<FAULT> as Take,
+        message_type: message_type::<FAULT> as MessageType,
     }
 }
 

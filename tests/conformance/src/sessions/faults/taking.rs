@@ -5,9 +5,10 @@ use super::receiver::{
     ROOT, ROWS, SIZE, TAKEN, WAITING, WIDTH,
 };
 use super::*;
+use crate::messages::order::{each_once, put_in_order};
 use reference::fnv::fnv1a;
 use reference::lent::Lent;
-use reference::message::{parse, Body, Opening};
+use reference::message::{parse, Body, Message, Opening};
 use reference::opening::{closed, difference, new_list, takings};
 use reference::shingle::Shingle;
 use reference::shingle_table;
@@ -53,18 +54,16 @@ pub fn take(
         return 11;
     }
     let bytes = message;
-    let Some(message) = parse(message) else {
-        return 10;
+    let Some(message) = read(fault, message) else {
+        return badly_formed(fault, bytes, before, state, output);
     };
     let again = fault == LAST_AGAIN && before[PHASE] == 1 && LAST.take() == bytes;
     let matches = matches(fault, &before, &message);
     if !matches && !again {
-        match fault {
-            ZEROED_AT_11 => output.fill(0),
-            ENDED_AT_11 => write_rows(&ended(fault, &before), state),
-            _ => {}
-        }
-        return 11;
+        return other_message(fault, &before, state, output);
+    }
+    if fault == FALLING_AFTER_11 && falls(bytes) {
+        return 10;
     }
     let next = match &message.body {
         Body::Opening(opening) => open(fault, &before, lent, opening, output),
@@ -75,6 +74,57 @@ pub fn take(
         Ok(next) => leave(fault, next, state, lent, output),
         Err(question) => refuse(fault, question, &before, state, lent, &message.body, output),
     }
+}
+
+/// The message, if it is well formed: the reference's reading, or one of references that do not rise.
+fn read(fault: u8, bytes: &[u8]) -> Option<Message> {
+    match fault {
+        FALLING_TAKEN | FALLING_AFTER_11 => parse(&put_in_order(bytes)),
+        DOUBLED_TAKEN => parse(&each_once(bytes)),
+        _ => parse(bytes),
+    }
+}
+
+/// Whether a message is a composition but for the order of its references.
+pub fn falls(bytes: &[u8]) -> bool {
+    parse(bytes).is_none() && parse(&put_in_order(bytes)).is_some()
+}
+
+/// A no at 10.
+fn badly_formed(
+    fault: u8,
+    bytes: &[u8],
+    mut rows: Vec<u64>,
+    state: &mut [u8],
+    output: &mut [u8],
+) -> u64 {
+    if !falls(bytes) {
+        return 10;
+    }
+    match fault {
+        FALLING_BY_17 | FALLING_ZEROED_AT_10 => output.fill(0),
+        FALLING_COUNTED => rows[TAKEN] = rows[TAKEN].wrapping_add(1),
+        _ => {}
+    }
+    match fault {
+        FALLING_BY_17 | FALLING_ENDED_AT_10 => write_rows(&ended(fault, &rows), state),
+        FALLING_COUNTED => write_rows(&rows, state),
+        _ => {}
+    }
+    match fault {
+        FALLING_BY_17 => 17,
+        _ => 10,
+    }
+}
+
+/// A no at 11.
+fn other_message(fault: u8, before: &[u64], state: &mut [u8], output: &mut [u8]) -> u64 {
+    match fault {
+        ZEROED_AT_11 => output.fill(0),
+        ENDED_AT_11 => write_rows(&ended(fault, before), state),
+        _ => {}
+    }
+    11
 }
 
 /// An ended session's rows.

@@ -37,10 +37,17 @@ pub enum Claim {
     Replies,
     /// After a hand-over or an end there is no query, and nothing is accepted.
     EndedStays,
+    /// "a setup's node has at most one genuine composition a session"
+    OneComposition,
+    /// "A sender of the old kind is met by number 10 when its order falls", at either end and by the
+    /// type of the message.
+    FallingGets10,
+    /// And the genuine composition is accepted after that.
+    GenuineAfterFalling,
 }
 
 /// All claims.
-pub const CLAIMS: [Claim; 16] = [
+pub const CLAIMS: [Claim; 19] = [
     Claim::DeliveredIsAccepted,
     Claim::AtMost4097,
     Claim::BoundIsReached,
@@ -57,6 +64,17 @@ pub const CLAIMS: [Claim; 16] = [
     Claim::AcceptedLeavesTheRest,
     Claim::Replies,
     Claim::EndedStays,
+    Claim::OneComposition,
+    Claim::FallingGets10,
+    Claim::GenuineAfterFalling,
+];
+
+/// Claims about what comes in every run, however few sessions it has: one of which no case was looked
+/// at says nothing.
+const ALWAYS: [Claim; 3] = [
+    Claim::OneComposition,
+    Claim::FallingGets10,
+    Claim::GenuineAfterFalling,
 ];
 
 /// How often a claim was looked at, in how many cases it did not hold, and the first of them.
@@ -104,6 +122,12 @@ impl Counts {
 
     pub fn broken(&self) -> bool {
         self.claims.values().any(|looked| looked.broken > 0)
+    }
+
+    /// Claims of which no case came, though one comes in every run of genuine messages.
+    pub fn unseen(&self) -> Vec<Claim> {
+        let unseen = |claim: &Claim| !self.claims.contains_key(claim);
+        ALWAYS.into_iter().filter(unseen).collect()
     }
 
     /// Prints the counts of a part.

@@ -163,7 +163,7 @@ impl<'a> Forged<'a> {
         }
         let buffer_bytes = buffer.len();
         let counts = &mut *self.run.counts;
-        looked_at_reply((&settings, width), &lent, &message, buffer_bytes, counts)
+        looked_at_reply((&settings, width), &lent, &message, buffer_bytes, counts).ok()
     }
 
     fn forged(&mut self, query: &[u8], genuine: &[u8], random: &mut Random) -> Vec<u8> {

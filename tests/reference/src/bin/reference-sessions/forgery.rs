@@ -85,6 +85,11 @@ pub fn node_reply(
     rest: &[u8],
     random: &mut Random,
 ) -> Vec<u8> {
+    if random.percent(10) {
+        if let Some(falling) = not_rising(genuine, random) {
+            return falling;
+        }
+    }
     let genuine = parse(genuine).expect("the reply is well formed").body;
     let body = match random.between(0, 6) {
         0 => Body::None { level, id },
@@ -121,6 +126,32 @@ fn changed(mut body: Body, random: &mut Random) -> Body {
     body
 }
 
+/// A composition with references that do not rise: two exchanged, all in falling order, or one a
+/// second time, perhaps with another count. Nothing of a message that has too few.
+pub fn not_rising(message: &[u8], random: &mut Random) -> Option<Vec<u8>> {
+    let mut message = parse(message).expect("the message is well formed");
+    let Body::Composition { references, .. } = &mut message.body else {
+        return None;
+    };
+    let last = references.len().checked_sub(1)?;
+    let place = random.place(last + 1);
+    match random.between(0, 3) {
+        0 if last > 0 => {
+            let other = (place + 1 + random.place(last)) % (last + 1);
+            references.swap(place, other);
+        }
+        1 if last > 0 => references.reverse(),
+        kind => {
+            let mut again = references[place];
+            if kind == 3 {
+                again.count = again.count % 32 + 1;
+            }
+            references.insert(random.between(0, last as u64 + 1) as usize, again);
+        }
+    }
+    Some(encode(&message))
+}
+
 /// Bytes of any content, often as many as are left.
 fn literal(level: u32, id: u64, rest: &[u8], random: &mut Random) -> Body {
     let length = match random.between(0, 2) {
@@ -131,7 +162,8 @@ fn literal(level: u32, id: u64, rest: &[u8], random: &mut Random) -> Body {
     Body::Literal { level, id, bytes }
 }
 
-/// References to shingles of the list, of the right level more often than not.
+/// References to shingles of the list, of the right level more often than not. Nearly all rise by
+/// index, so that they reach the questions after 10.
 fn composition(level: u32, id: u64, list: &[Shingle], random: &mut Random) -> Body {
     let mut references: Vec<Reference> = Vec::new();
     let right = random.percent(80);
@@ -143,14 +175,15 @@ fn composition(level: u32, id: u64, list: &[Shingle], random: &mut Random) -> Bo
             break;
         }
         let index = random.one_of(&places);
-        let twice = references.iter().any(|r| r.index == index as u32);
-        if !twice || random.percent(5) {
-            let most = list[index].count.clamp(1, 32);
-            references.push(Reference {
-                index: index as u32,
-                count: random.by_size(1, most.min(6)) as u32,
-            });
-        }
+        let most = list[index].count.clamp(1, 32);
+        references.push(Reference {
+            index: index as u32,
+            count: random.by_size(1, most.min(6)) as u32,
+        });
+    }
+    if random.percent(95) {
+        references.sort_by_key(|reference| reference.index);
+        references.dedup_by_key(|reference| reference.index);
     }
     let number = random.one_of(&[0, 0, 0, 1, 4_095, 4_096]);
     Body::Composition {

@@ -1,13 +1,15 @@
 //! Genuine sessions over a link that loses, repeats, reorders and delays, with genuine messages of
-//! other strings under other session numbers.
+//! other strings under other session numbers, and compositions whose references do not rise.
 
 use crate::conditions::{no_id_shared, node_query, opens_truly, queries};
 use crate::counts::{Claim, Counts};
+use crate::forgery::not_rising;
 use crate::random::Random;
 use crate::run::{OwnOpening, Run};
-use crate::sender_end::{memory, same_reply, shuffled, SenderEnd};
+use crate::sender_end::{looked_at_reply, memory, SenderEnd, REPLY_BYTES};
 use crate::strings;
 use reference::message::{encode, Body, Message};
+use reference::rcds::rcds_message_type;
 use reference::receiver::{set_up, Answer};
 use reference::settings::Settings;
 use reference::tree::Node;
@@ -139,10 +141,9 @@ impl<'a> Genuine<'a> {
         Ok(genuine)
     }
 
-    /// The genuine reply to a query, its references in any order.
-    fn reply(&mut self, query: &[u8], random: &mut Random) -> Vec<u8> {
-        let reply = self.sender.reply(query, self.run.counts);
-        shuffled(&reply, random)
+    /// The genuine reply to a query.
+    fn reply(&mut self, query: &[u8]) -> Vec<u8> {
+        self.sender.reply(query, self.run.counts)
     }
 
     /// Takes a genuine message.
@@ -153,8 +154,8 @@ impl<'a> Genuine<'a> {
         if self.queries.is_none() {
             return;
         }
-        let reply = query.map(|query| self.sender.reply(&query, self.run.counts));
-        let delivered = reply.is_some_and(|reply| same_reply(&reply, message));
+        let reply = query.map(|query| self.reply(&query));
+        let delivered = reply.is_some_and(|reply| reply == message);
         let what = format!("{answer:?}");
         if delivered {
             let accepted = !matches!(answer, Answer::Refused(_));
@@ -171,6 +172,35 @@ impl<'a> Genuine<'a> {
             self.run.claim(Claim::SendersString, right, &what);
         }
         self.look_at_point();
+    }
+
+    /// Takes the reply to the outstanding query with references that do not rise, if it has any, and
+    /// then perhaps the genuine one. The sender and the type say of it what the receiver does.
+    fn take_not_rising(&mut self, random: &mut Random) {
+        let Some(query) = self.run.query() else {
+            return;
+        };
+        let reply = self.reply(&query);
+        let Some(falling) = not_rising(&reply, random) else {
+            return;
+        };
+        let taken = self.run.take(&falling);
+        let ends = (&self.sender.settings, self.sender.width);
+        let (lent, counts) = (&self.sender.lent, &mut *self.run.counts);
+        let replied = looked_at_reply(ends, lent, &falling, REPLY_BYTES, counts);
+        let read = rcds_message_type(&falling);
+        let by_10 = (taken, &replied, read) == (Answer::Refused(10), &Err(10), 10);
+        let what = format!("{taken:?}, {replied:?} and {read} for {falling:02x?}");
+        self.run.claim(Claim::FallingGets10, by_10, &what);
+        self.look_at_point();
+        if random.percent(50) {
+            let before = self.run.accepted;
+            self.take(&reply);
+            let accepted = self.run.accepted > before;
+            if self.queries.is_some() {
+                self.run.claim(Claim::GenuineAfterFalling, accepted, &what);
+            }
+        }
     }
 
     /// Looks at the list of calls up to here.
@@ -192,13 +222,13 @@ impl<'a> Genuine<'a> {
     }
 
     /// Every query answered at once, until the session has none, or has had more than it may.
-    pub fn finish(&mut self, random: &mut Random) {
+    pub fn finish(&mut self) {
         let most = self.queries.as_ref().map_or(4_097, Vec::len) as u64;
         while self.run.accepted <= most {
             let Some(query) = self.run.write(24) else {
                 return;
             };
-            let reply = self.reply(&query, random);
+            let reply = self.reply(&query);
             let before = self.run.accepted;
             self.take(&reply);
             if self.run.accepted == before {
@@ -260,7 +290,7 @@ pub fn session(ends: &Ends, finished: bool, random: &mut Random, counts: &mut Co
         turn(&mut genuine, &mut others, &mut link, random);
     }
     if finished {
-        genuine.finish(random);
+        genuine.finish();
     }
     for late in link.written.iter().rev().take(5) {
         genuine.take(late);
@@ -281,7 +311,7 @@ pub fn most_replies(random: &mut Random, counts: &mut Counts) {
 /// One thing that happens at an end or on the link.
 fn turn(genuine: &mut Genuine, others: &mut [SenderEnd], link: &mut Link, random: &mut Random) {
     let (loss, repeat) = (link.loss, link.repeat);
-    match random.between(0, 19) {
+    match random.between(0, 20) {
         0..=5 => {
             let bytes = random.one_of(&[0, 7, 8, 23, 24, 24, 24, 24, 100]);
             if let Some(query) = genuine.run.write(bytes) {
@@ -290,7 +320,7 @@ fn turn(genuine: &mut Genuine, others: &mut [SenderEnd], link: &mut Link, random
         }
         6..=11 => {
             if let Some(query) = arrive(&mut link.queries, random) {
-                let reply = genuine.reply(&query, random);
+                let reply = genuine.reply(&query);
                 link.written.push(reply.clone());
                 send(&mut link.replies, reply, loss, repeat, random);
             }
@@ -301,6 +331,7 @@ fn turn(genuine: &mut Genuine, others: &mut [SenderEnd], link: &mut Link, random
             }
         }
         18 if !link.written.is_empty() => genuine.take(&random.one_of(&link.written)),
+        19 => genuine.take_not_rising(random),
         _ => {
             let stray = stray(genuine, others, random);
             genuine.take(&stray);
@@ -344,6 +375,5 @@ fn stray(genuine: &mut Genuine, others: &mut [SenderEnd], random: &mut Random) -
         }),
         _ => node_query(session, &node),
     };
-    let reply = sender.reply(&query, counts);
-    shuffled(&reply, random)
+    sender.reply(&query, counts)
 }

@@ -3,7 +3,7 @@
 use crate::counts::{Claim, Counts};
 use crate::random::Random;
 use reference::lent::Lent;
-use reference::message::{encode, parse, Body};
+use reference::message::{parse, Body};
 use reference::rcds::ACCEPTED;
 use reference::reply::reply;
 use reference::settings::Settings;
@@ -24,14 +24,14 @@ pub fn memory(string: &[u8], width: u64, random: &mut Random) -> Lent {
     }
 }
 
-/// The reply to a message in a buffer of so many bytes, if there is one.
+/// The reply to a message in a buffer of so many bytes, or the question that has a no.
 pub fn looked_at_reply(
     (settings, width): (&Settings, u64),
     lent: &Lent,
     message: &[u8],
     buffer_bytes: usize,
     counts: &mut Counts,
-) -> Option<Vec<u8>> {
+) -> Result<Vec<u8>, u64> {
     const BEFORE: u8 = 0xa5;
     let mut buffer = vec![BEFORE; buffer_bytes];
     let answer = reply(settings, width, lent, message, &mut buffer);
@@ -42,13 +42,13 @@ pub fn looked_at_reply(
         let unchanged = buffer.iter().all(|&byte| byte == BEFORE);
         counts.claim(Claim::OwnQuestions, own, case);
         counts.claim(Claim::NoChangesNothing, unchanged, case);
-        return None;
+        return Err(answer);
     }
     let written = buffer[..(answer - ACCEPTED) as usize].to_vec();
     let rest = &buffer[written.len()..];
     let right = is_reply(message, &written) && rest.iter().all(|&byte| byte == BEFORE);
     counts.claim(Claim::Replies, right, case);
-    Some(written)
+    Ok(written)
 }
 
 /// "To type 1 the sender replies type 3", to type 2 one of types 4 to 6 with its level and id, and
@@ -72,7 +72,10 @@ pub struct SenderEnd {
     pub settings: Settings,
     pub width: u64,
     pub lent: Lent,
-    written: HashMap<Vec<u8>, Vec<u8>>,
+    /// The replies by their queries, and how often each was asked for.
+    written: HashMap<Vec<u8>, (Vec<u8>, u64)>,
+    /// The memory of a second setup over the same string, once it is needed.
+    again: Option<Lent>,
 }
 
 impl SenderEnd {
@@ -93,47 +96,49 @@ impl SenderEnd {
             width,
             lent,
             written: HashMap::new(),
+            again: None,
         })
     }
 
-    /// The genuine reply to a query. It depends on nothing else, so it is worked out once.
+    /// The genuine reply to a query. It depends on nothing else, so it is worked out once; a
+    /// composition a second time, when it is first asked for again.
     pub fn reply(&mut self, query: &[u8], counts: &mut Counts) -> Vec<u8> {
-        if let Some(reply) = self.written.get(query) {
-            return reply.clone();
+        if let Some((reply, asked)) = self.written.get_mut(query) {
+            *asked += 1;
+            let (reply, second) = (reply.clone(), *asked == 2);
+            if second {
+                self.look_at_composition(query, &reply, counts);
+            }
+            return reply;
         }
         let ends = (&self.settings, self.width);
         let reply = looked_at_reply(ends, &self.lent, query, REPLY_BYTES, counts)
             .expect("a query has a reply");
-        self.written.insert(query.to_vec(), reply.clone());
+        self.written.insert(query.to_vec(), (reply.clone(), 1));
         reply
     }
-}
 
-/// A message with its references put in this order.
-fn with_references(
-    message: &[u8],
-    order: impl FnOnce(&mut Vec<reference::word::Reference>),
-) -> Vec<u8> {
-    let mut parsed = parse(message).expect("the message is well formed");
-    let Body::Composition { references, .. } = &mut parsed.body else {
-        return message.to_vec();
-    };
-    order(references);
-    encode(&parsed)
-}
-
-/// "references in any order": another sender may write them so.
-pub fn shuffled(message: &[u8], random: &mut Random) -> Vec<u8> {
-    with_references(message, |references| {
-        for last in (1..references.len()).rev() {
-            references.swap(last, random.place(last + 1));
+    /// Writes a composition again, over the tables that a setup of the same string leaves in memory
+    /// of other lengths and another content.
+    fn look_at_composition(&mut self, query: &[u8], reply: &[u8], counts: &mut Counts) {
+        let body = parse(reply).map(|reply| reply.body);
+        if !matches!(body, Some(Body::Composition { .. })) {
+            return;
         }
-    })
-}
-
-/// The same message but for the order of its references.
-pub fn same_reply(one: &[u8], other: &[u8]) -> bool {
-    let sorted =
-        |message: &[u8]| with_references(message, |references| references.sort_by_key(|r| r.index));
-    one.len() == other.len() && (one == other || sorted(one) == sorted(other))
+        let (settings, width) = (&self.settings, self.width);
+        let again = self.again.get_or_insert_with(|| {
+            let mut again = Lent {
+                string: self.lent.string.clone(),
+                nodes: vec![0xc3; 4_097 * 16],
+                shingles: vec![0xc3; 4_097 * 24],
+                cells: vec![0xc3; (3 * width as usize + 1) * 40],
+            };
+            assert!(again.set_up(settings, width) >= ACCEPTED);
+            again
+        });
+        let second = looked_at_reply((settings, width), again, query, REPLY_BYTES, counts);
+        let same = second.as_deref() == Ok(reply);
+        let case = || format!("two compositions for {query:02x?}");
+        counts.claim(Claim::OneComposition, same, case);
+    }
 }
