@@ -141,27 +141,28 @@ pub risen-none : (ws : List ℕ) (at : ℕ) → Risen ws at at 0
 risen-none ws at = record { rises = rising-from-zero (manyFrom referenceWord (drop at ws)); count = refl; after = refl }
 
 module _ (ws : List ℕ) (at k least : ℕ) (m : Risen ws at k least) where
-  module _ (w : ℕ) (x : ℕ) (h : k < length ws) (here : w ≡ getD ws k 0) (e : true ≡ referenceWord .is w) (is : x ≡ restOf w) where
+  module _ (w : ℕ) (h : k < length ws) (here : w ≡ getD ws k 0) (e : true ≡ referenceWord .is w) where
     met : manyFrom referenceWord (drop k ws) ≡ referenceWord .of w ∷ manyFrom referenceWord (drop (k + 1) ws)
     met = rw here (many-more referenceWord ws k h (rw (← here) (sym e)))
 
-    first-met : risingFrom least (manyFrom referenceWord (drop k ws)) ≡ (leb least (x / 64) && risingFrom (suc (x / 64)) (manyFrom referenceWord (drop (k + 1) ws)))
+    first-met : risingFrom least (manyFrom referenceWord (drop k ws))
+        ≡ (leb least (restOf w / 64) && risingFrom (suc (restOf w / 64)) (manyFrom referenceWord (drop (k + 1) ws)))
     unfolding risingFrom referenceWord
-    first-met = ap (risingFrom least) met ∙ rw (← is)
+    first-met = ap (risingFrom least) met
 
-    pub risen-more : least ≤ x / 64 → Risen ws at (k + 1) (x / 64 + 1)
-    risen-more above =
+    pub risen-more : (next : ℕ) → least ≤ restOf w / 64 → next ≡ restOf w / 64 + 1 → Risen ws at (k + 1) next
+    risen-more next above is =
         let n = m .count in
         let c = ap length met in
         record {
-          rises = m .rises ∙ (first-met ∙ rw (le-leb least (x / 64) above, add-one (x / 64)));
+          rises = m .rises ∙ (first-met ∙ rw (le-leb least (restOf w / 64) above, is, add-one (restOf w / 64)));
           count = omega arith;
           after = m .after ∙ many-after-more referenceWord ws k h (rw (← here) (sym e));
         }
 
-    pub risen-falls : x / 64 < least → References ws at false k
+    pub risen-falls : restOf w / 64 < least → References ws at false k
     risen-falls under =
-        let no : rising (manyFrom referenceWord (drop at ws)) ≡ false = m .rises ∙ (first-met ∙ rw (lt-leb least (x / 64) under)) in
+        let no : rising (manyFrom referenceWord (drop at ws)) ≡ false = m .rises ∙ (first-met ∙ rw (lt-leb least (restOf w / 64) under)) in
         record { rises = sym no; count = λ t. absurd (false≢true t); after = λ t. absurd (false≢true t) }
 
   ended : manyFrom referenceWord (drop k ws) ≡ [] → manyAfter referenceWord (drop k ws) ≡ drop k ws → References ws at true k

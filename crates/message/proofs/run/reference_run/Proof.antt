@@ -1,6 +1,7 @@
 -- The references up to word k have risen: the record `Risen`.
 use mathlib.Core.Path.{_∙_, sym}
 use Prim.Native.Nat.{_-_, _/_}
+use native.Mathlib.Omega.{arith}
 use borrow.Author.Tests.{not-true, not-false}
 use borrow.Author.Needs.{needs}
 use lib.ListN.{length}
@@ -32,7 +33,7 @@ rest-requires : tie.Need-rest-requires Inv-loop μ-loop
 rest-requires c κs = search needs
 
 returns-2 : tie.Need-returns-2 Inv-loop μ-loop
-returns-2 c = risen-falls _ _ _ _ (c .before .before .before .before .before .before .loop .inv) _ _ (rw (length-words (c .before .before .before .before .before .before .before .before .args .message .now)) (c .before .before .before .before .before .loop-test .taken)) (c .before .before .before .before .load .ensures) (sym (not-false _ (c .before .before .if1 .left)) ∙ c .before .before .before .is-reference .ensures) (c .before .rest .ensures) (c .if2 .taken)
+returns-2 c = risen-falls _ _ _ _ (c .before .before .before .before .before .before .loop .inv) _ (rw (length-words (c .before .before .before .before .before .before .before .before .args .message .now)) (c .before .before .before .before .before .loop-test .taken)) (c .before .before .before .before .load .ensures) (sym (not-false _ (c .before .before .if1 .left)) ∙ c .before .before .before .is-reference .ensures) (let x = c .before .rest .ensures in let low = c .if2 .taken in omega (arith, x, low))
 
 add-least : tie.Need-add-least Inv-loop μ-loop
 add-least c = search needs
@@ -44,7 +45,7 @@ loop-less : tie.Need-loop-less Inv-loop μ-loop
 loop-less c = search needs
 
 loop-again : tie.Need-loop-again Inv-loop μ-loop
-loop-again c = risen-more _ _ _ _ (c .before .before .before .before .before .before .loop .inv) _ _ (rw (length-words (c .before .before .before .before .before .before .before .before .args .message .now)) (c .before .before .before .before .before .loop-test .taken)) (c .before .before .before .before .load .ensures) (sym (not-false _ (c .before .before .if1 .left)) ∙ c .before .before .before .is-reference .ensures) (c .before .rest .ensures) (c .if2 .left)
+loop-again c = risen-more _ _ _ _ (c .before .before .before .before .before .before .loop .inv) _ (rw (length-words (c .before .before .before .before .before .before .before .before .args .message .now)) (c .before .before .before .before .before .loop-test .taken)) (c .before .before .before .before .load .ensures) (sym (not-false _ (c .before .before .if1 .left)) ∙ c .before .before .before .is-reference .ensures) _ (let x = c .before .rest .ensures in let high = c .if2 .left in omega (arith, x, high)) (let x = c .before .rest .ensures in omega (arith, x))
 
 returns-3 : tie.Need-returns-3 Inv-loop μ-loop
 returns-3 c = risen-out _ _ _ _ (c .before .loop .inv) (rw (length-words (c .before .before .before .args .message .now)) (c .loop-test .left))
