@@ -36,7 +36,8 @@
  *   7  what is lent long enough: node table of RCDS_NODES_BYTES bytes, shingle
  *      table of RCDS_SHINGLES_BYTES, cell table of RCDS_CELLS_BYTES(width),
  *      at a setup the state of RCDS_SENDER_STATE_BYTES or
- *      RCDS_RECEIVER_STATE_BYTES? Asked of those that the call is lent.
+ *      RCDS_RECEIVER_STATE_BYTES, each table of strata of RCDS_STRATA_BYTES?
+ *      Asked of those that the call is lent.
  *   8  tree of at most RCDS_MAX_NODES nodes?
  *   9  session still running: not ended, at most RCDS_MAX_PENDING pending
  *      nodes, none of them of a level above levels, and at least one after the
@@ -72,7 +73,8 @@
  * Every call of an end after its setup asks 1 to 7 again, of the settings that
  * its state holds and of what it is lent. What a sender's state lacks reads as
  * 0, so one that is too short is refused by 1 to 5, the first setting that it
- * lacks. A receiver's state that is too short is refused by 1.
+ * lacks. A receiver's state that is too short is refused by 1; the two calls on
+ * strata read the settings of either state as a sender's.
  */
 #ifndef RCDS_H
 #define RCDS_H
@@ -131,6 +133,9 @@ extern "C" {
 
 /* The bytes that the cell table of a sketch of width q needs: 3 * q cells. */
 #define RCDS_CELLS_BYTES(q) (120 * (q))
+
+/* The bytes that a table of strata needs: 16 strata of 12 cells. */
+#define RCDS_STRATA_BYTES 7680
 
 /* The bytes that a sender's state needs. */
 #define RCDS_SENDER_STATE_BYTES 40
@@ -633,6 +638,81 @@ uint64_t rcds_sketch_open(uint64_t levels, uint64_t width,
                           const uint8_t *theirs, size_t theirs_len,
                           const uint8_t *own, size_t own_len,
                           uint8_t *shingles, size_t shingles_len);
+
+/*
+ * Strata.
+ *
+ * Two ends that have not chosen a sketch width yet can estimate how many of
+ * their shingles differ. Each shingle goes to one of 16 strata: as many as its
+ * check hash has trailing zero bits, 15 at most. So about half of a list goes to
+ * stratum 0, a quarter to stratum 1, and so on. Each stratum is a sketch of
+ * width 4, 12 cells; stratum i has cells 12 * i to 12 * i + 11 of the table,
+ * which rcds_cell_value reads.
+ *
+ * Each end builds its own strata with the same w, p, levels and nominal; the
+ * width of its setup does not matter. One sends them to the other, as bytes of
+ * a message of your own, and the other estimates.
+ */
+
+/*
+ * rcds_strata_build - the strata of a shingle list.
+ *
+ * state        the state of a sender or of a receiver, as its setup left it: the
+ *              settings in its first RCDS_SENDER_STATE_BYTES bytes are used. Not
+ *              changed.
+ * string, nodes, shingles, cells
+ *              the string that the setup took and the tables that it left. Not
+ *              changed. The strata are those of the shingle table's list,
+ *              whatever it holds.
+ * strata       where the strata go, strata_len bytes. What it holds before the
+ *              call does not matter.
+ *
+ * Asks 1 to 7, in this order.
+ *
+ * Accepted: the answer is 0, and the first RCDS_STRATA_BYTES bytes of strata are
+ * the strata of the list. The bytes after them are unchanged.
+ *
+ * Refused: strata is unchanged.
+ */
+uint64_t rcds_strata_build(const uint8_t *state, size_t state_len,
+                           const uint8_t *string, size_t string_len,
+                           const uint8_t *nodes, size_t nodes_len,
+                           const uint8_t *shingles, size_t shingles_len,
+                           const uint8_t *cells, size_t cells_len,
+                           uint8_t *strata, size_t strata_len);
+
+/*
+ * rcds_strata_estimate - about how many shingles of two lists differ.
+ *
+ * state, string, nodes, shingles, cells
+ *              as for rcds_strata_build. The shingle table is the own one, as the
+ *              setup left it: a receiver that has taken an opening has the
+ *              sender's list there.
+ * theirs       the other end's strata, theirs_len bytes. Not changed.
+ * own          the own strata, own_len bytes. Not changed.
+ *
+ * From stratum 15 down, each stratum is opened as a sketch is (see
+ * rcds_sketch_open), with the own list's shingles of that stratum for the own
+ * list; how long the new list gets, and whether it has a pair twice, is not
+ * asked. The shingles found are counted, those that only one end has, of either
+ * end. At the first stratum i that does not open the estimate is the count so
+ * far times 2^(i + 1). If all open it is the count.
+ *
+ * The estimate is rough: docs/GUIDE.md says how rough, and how to use it.
+ *
+ * Asks 1 to 7, in this order. Any content of theirs and own is taken.
+ *
+ * Accepted: RCDS_COUNT of the answer is the estimate, at most 393,216.
+ *
+ * Nothing that is lent is changed.
+ */
+uint64_t rcds_strata_estimate(const uint8_t *state, size_t state_len,
+                              const uint8_t *string, size_t string_len,
+                              const uint8_t *nodes, size_t nodes_len,
+                              const uint8_t *shingles, size_t shingles_len,
+                              const uint8_t *cells, size_t cells_len,
+                              const uint8_t *theirs, size_t theirs_len,
+                              const uint8_t *own, size_t own_len);
 
 /*
  * Reading a shingle table.

@@ -67,6 +67,19 @@ static void expect_crossed(void)
     expect("its own parent", rcds_crossed_parent(crossed, 0), 0);
 }
 
+/* A table of strata: 16 of 12 cells, and the last value of the last cell ends
+ * with the table. */
+static void expect_strata(void)
+{
+    static uint8_t strata[RCDS_STRATA_BYTES];
+
+    expect("bytes of strata", RCDS_STRATA_BYTES, 192 * RCDS_CELL_BYTES);
+    strata[12 * RCDS_CELL_BYTES + 7] = 5;
+    strata[RCDS_STRATA_BYTES - 1] = 6;
+    expect("number of stratum 1", rcds_cell_value(strata, 12, 0), 5);
+    expect("last of stratum 15", rcds_cell_value(strata, 12 * 15 + 11, 4), 6);
+}
+
 int main(void)
 {
     char begin[8];
@@ -74,6 +87,7 @@ int main(void)
 
     expect_nodes();
     expect_crossed();
+    expect_strata();
     for (question = 1; question <= 22; question++) {
         snprintf(begin, sizeof begin, "%" PRIu64 ": ", question);
         expect_words(question, begin);

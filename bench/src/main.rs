@@ -2,9 +2,9 @@
 //!
 //!     bench [GROUP...]
 //!
-//! The groups are `tree`, `growth`, `crossed`, `trails`, `setups`, `openings` and `sessions`; none stands
-//! for all that are built in. A group is built in by the feature of its name (`growth` by `tree`), and all are,
-//! unless cargo is told otherwise.
+//! The groups are `tree`, `growth`, `crossed`, `trails`, `setups`, `openings`, `strata` and `sessions`; none
+//! stands for all that are built in. A group is built in by the feature of its name (`growth` by `tree`), and all
+//! are, unless cargo is told otherwise.
 //!
 //! A cost is counted in plain FNV-1a passes, which are timed in turn with the calls. Nothing here
 //! fails because of a time; a wrong answer stops the run.
@@ -21,6 +21,8 @@ mod pass;
 mod sessions;
 #[cfg(feature = "setups")]
 mod setups;
+#[cfg(feature = "strata")]
+mod strata;
 #[cfg(feature = "trails")]
 mod trails;
 #[cfg(feature = "tree")]
@@ -39,6 +41,8 @@ const GROUPS: &[(&str, fn())] = &[
     ("setups", setups::run),
     #[cfg(feature = "openings")]
     ("openings", openings::run),
+    #[cfg(feature = "strata")]
+    ("strata", strata::run),
     #[cfg(feature = "sessions")]
     ("sessions", sessions::run),
 ];

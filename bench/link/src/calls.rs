@@ -6,6 +6,9 @@ pub const MAX_STRING: usize = 65_536;
 /// RCDS_QUERY_BYTES.
 pub const QUERY_BYTES: usize = 24;
 
+/// RCDS_STRATA_BYTES.
+pub const STRATA_BYTES: usize = 7_680;
+
 /// Bytes that are enough for every reply: a literal of the longest string.
 pub const REPLY_BYTES: usize = 24 + 4 * MAX_STRING.div_ceil(3);
 
@@ -188,6 +191,48 @@ pub fn sketch_open(
             own.len(),
             shingles.as_mut_ptr(),
             shingles.len(),
+        )
+    })
+}
+
+/// Builds the strata of an end's shingle list.
+pub fn strata_build(end: &End, strata: &mut [u8]) -> Result<usize, u64> {
+    answered(unsafe {
+        ::calls::rcds_strata_build(
+            end.state.as_ptr(),
+            end.state.len(),
+            end.string.as_ptr(),
+            end.string.len(),
+            end.nodes.as_ptr(),
+            end.nodes.len(),
+            end.shingles.as_ptr(),
+            end.shingles.len(),
+            end.cells.as_ptr(),
+            end.cells.len(),
+            strata.as_mut_ptr(),
+            strata.len(),
+        )
+    })
+}
+
+/// About how many shingles differ, from the other end's strata and the own ones.
+pub fn strata_estimate(end: &End, theirs: &[u8], own: &[u8]) -> Result<usize, u64> {
+    answered(unsafe {
+        ::calls::rcds_strata_estimate(
+            end.state.as_ptr(),
+            end.state.len(),
+            end.string.as_ptr(),
+            end.string.len(),
+            end.nodes.as_ptr(),
+            end.nodes.len(),
+            end.shingles.as_ptr(),
+            end.shingles.len(),
+            end.cells.as_ptr(),
+            end.cells.len(),
+            theirs.as_ptr(),
+            theirs.len(),
+            own.as_ptr(),
+            own.len(),
         )
     })
 }

@@ -7,6 +7,8 @@
 //! - `settings`: how many shingles a change makes differ, and what other settings cost.
 //! - `blocks`: what settings make of a string.
 //! - `widths`: which sketch widths open how many differences.
+//! - `strata`: how rough the estimate of the strata is, which width to choose by it, and what a table of
+//!   strata holds.
 //! - `stack`: how deep each call's stack goes.
 //!
 //! No group stands for all. A wrong string that is handed over stops the run.
@@ -18,14 +20,16 @@ mod pairs;
 mod session;
 mod settings;
 mod stack;
+mod strata;
 mod strings;
 mod widths;
 
-const GROUPS: [(&str, fn()); 5] = [
+const GROUPS: [(&str, fn()); 6] = [
     ("pairs", pairs::run),
     ("settings", settings::run),
     ("blocks", blocks::run),
     ("widths", widths::run),
+    ("strata", strata::run),
     ("stack", stack::run),
 ];
 

@@ -47,7 +47,7 @@ fn pairs_of(size: usize, change: &str) -> Vec<Pair> {
 }
 
 /// The entries of a shingle table up to its first count 0.
-fn entries(table: &[u8]) -> Vec<&[u8]> {
+pub fn entries(table: &[u8]) -> Vec<&[u8]> {
     table
         .chunks(24)
         .take_while(|entry| entry[22..] != [0, 0])

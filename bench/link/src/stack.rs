@@ -1,6 +1,6 @@
 //! How deep each call's stack goes: a thread runs it on a painted stack.
 
-use crate::calls::{self, Settings, MAX_STRING, QUERY_BYTES, REPLY_BYTES};
+use crate::calls::{self, End, Settings, MAX_STRING, QUERY_BYTES, REPLY_BYTES, STRATA_BYTES};
 use crate::strings::{content, pair, Random, CHANGES, CONTENTS};
 use std::ffi::{c_int, c_void};
 
@@ -67,6 +67,17 @@ impl Depths {
     }
 }
 
+/// The strata of both ends, and the receiver's estimate.
+fn strata(depths: &mut Depths, sender: &End, receiver: &End) {
+    let [mut theirs, mut own] = [(); 2].map(|()| vec![0; STRATA_BYTES]);
+    for (end, table) in [(sender, &mut theirs), (receiver, &mut own)] {
+        let _ = depths.run("rcds_strata_build", || calls::strata_build(end, table));
+    }
+    let _ = depths.run("rcds_strata_estimate", || {
+        calls::strata_estimate(receiver, &theirs, &own)
+    });
+}
+
 /// A whole session, each call on a painted stack.
 fn session(depths: &mut Depths, settings: &Settings, string: &[u8], own: &[u8]) {
     let mut nodes = vec![0; 65_536];
@@ -85,6 +96,7 @@ fn session(depths: &mut Depths, settings: &Settings, string: &[u8], own: &[u8]) 
         let [_, _, levels, _, width] = settings.0;
         calls::sketch_open(levels, width, &sender.cells, &receiver.cells, &mut opened)
     });
+    strata(depths, &sender, &receiver);
     let (mut asking, mut replying) = (vec![0; QUERY_BYTES], vec![0; REPLY_BYTES]);
     let mut output = vec![0; MAX_STRING];
     for _ in 0..40 {

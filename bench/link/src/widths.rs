@@ -14,7 +14,8 @@ const DIFFERENCES: [usize; 9] = [6, 10, 14, 18, 24, 32, 48, 64, 96];
 
 const TRIALS: u64 = 1_000;
 const FILES: u64 = 60;
-const LEVELS: u64 = 3;
+/// L of the random lists.
+pub const LEVELS: u64 = 3;
 
 /// FNV-1a of a byte and a shingle's 20 bytes.
 fn hash(number: u8, shingle: &[u64; 3]) -> u64 {
@@ -32,7 +33,7 @@ fn hash(number: u8, shingle: &[u64; 3]) -> u64 {
 }
 
 /// The cell table of a list.
-fn cells(width: u64, list: &[[u64; 3]]) -> Vec<u8> {
+pub fn cells(width: u64, list: &[[u64; 3]]) -> Vec<u8> {
     let mut sums = vec![0u64; 15 * width as usize];
     for shingle in list {
         let [previous, own, tail] = *shingle;
@@ -49,7 +50,7 @@ fn cells(width: u64, list: &[[u64; 3]]) -> Vec<u8> {
 }
 
 /// A shingle table that begins with a list.
-fn table(list: &[[u64; 3]]) -> Vec<u8> {
+pub fn table(list: &[[u64; 3]]) -> Vec<u8> {
     let mut bytes: Vec<u8> = list
         .iter()
         .flatten()
@@ -60,15 +61,20 @@ fn table(list: &[[u64; 3]]) -> Vec<u8> {
 }
 
 /// So many random shingles of levels 1 to L and count 1, sorted.
-fn shingles(random: &mut Random, number: usize) -> Vec<[u64; 3]> {
+pub fn shingles(random: &mut Random, number: usize) -> Vec<[u64; 3]> {
     let mut list: Vec<[u64; 3]> = (0..number)
         .map(|_| {
             let level = 1 + random.below(LEVELS as usize) as u64;
             [random.next(), random.next(), level * 65_536 + 1]
         })
         .collect();
-    list.sort_by_key(|[previous, own, tail]| (tail >> 16, *previous, *own));
+    sort(&mut list);
     list
+}
+
+/// Sorts by level, previous id and own id.
+pub fn sort(list: &mut [[u64; 3]]) {
+    list.sort_by_key(|[previous, own, tail]| (tail >> 16, *previous, *own));
 }
 
 /// Whether a sketch over random differences opens, and whether to the sender's list.
@@ -95,7 +101,7 @@ fn counted(width: u64, count: u64, new: usize, random: &mut Random) -> (u64, u64
         let [previous, id, tail] = own[0];
         let mut theirs = shingles(random, new);
         theirs.push([previous, id, tail - 1 + count]);
-        theirs.sort_by_key(|[previous, own, tail]| (tail >> 16, *previous, *own));
+        sort(&mut theirs);
         let mut list = table(&own);
         let (a, b) = (cells(width, &theirs), cells(width, &own));
         if sketch_open(LEVELS, width, &a, &b, &mut list).is_ok() {

@@ -75,7 +75,7 @@ or-none true e = refl
 or-none false e = e
 
 -- "no shingle was taken twice", of each sign apart, where "negative ones are in the own list, positive ones are not".
-signs-apart : (own : List Shingle) (zs : List Signed) → allIn own (negatives zs) ≡ true → noneIn own (positives zs) ≡ true
+pub signs-apart : (own : List Shingle) (zs : List Signed) → allIn own (negatives zs) ≡ true → noneIn own (positives zs) ≡ true
     → noneTwice (shinglesOf zs) ≡ (noneTwice (positives zs) && noneTwice (negatives zs))
 unfolding shinglesOf positives negatives allIn noneIn noneTwice
 signs-apart own [] a b = refl

@@ -3,6 +3,7 @@ mod list;
 mod question;
 mod taken;
 
+pub use taken::none_twice;
 ghost use Rattle.opening.specs.Deciding.{Decided};
 ghost use Rattle.opening.specs.Renewing.{Renewed};
 ghost use Rattle.opening.specs.Opened.{Opened};
@@ -27,10 +28,10 @@ pub fn decide(levels: u64, width: u64, theirs: &[u8], own: &[u8], shingles: &[u8
             gone: [0u8; 4608],
         };
     }
-    let peeled = single::peel(levels, width, theirs, own);
-    let new = peeled.new;
-    let gone = peeled.gone;
-    let opened = question::opens(peeled.empty, &new, &gone, shingles);
+    let mut new = [0u8; 4608];
+    let mut gone = [0u8; 4608];
+    let empty = single::peel(levels, width, theirs, own, &mut new, &mut gone);
+    let opened = question::opens(empty, &new, &gone, shingles);
     let refusal = question::last(opened);
     Opening { refusal, new, gone }
 }

@@ -1,6 +1,7 @@
 // What the drive's firmware calls from C: numbers and lent bytes. include/rcds.h declares these functions.
 mod ids;
 
+ghost use mathlib.Core.List.{[]};
 ghost use mathlib.Core.Path.{_≡_};
 ghost use lib.ListN.{length};
 ghost use Rattle.crossing.specs.Crossing.{Crossed};
@@ -12,6 +13,8 @@ ghost use Rattle.state_bytes.specs.Bytes.{stateIn};
 ghost use Rattle.receiver.specs.Calls.{Asked};
 ghost use Rattle.held.specs.Held.{HeldSetUp, HeldTakes};
 ghost use Rattle.opening.specs.Opened.{Opened};
+ghost use Rattle.protocol.specs.Lent.{lent};
+ghost use Rattle.strata.specs.Calls.{Built, Estimated};
 ghost use Rattle.tree.specs.Table.{Tabled};
 ghost use Rattle.rcds.specs.Calls.{treeSettings, settingsOf};
 ghost use Rattle.rcds.specs.Trails.{trailNumberAnswer, Ordered};
@@ -229,4 +232,39 @@ pub extern "C" fn rcds_sketch_open(
     ensures { λ r. ⌜ Opened levels width (now (theirs .entry)) (now (own .entry)) (now (shingles .entry)) (now (shingles .exit)) r ⌝ }
 {
     opening::open(levels, width, theirs, own, shingles)
+}
+
+// Writes the strata of the shingle table's list. Asked are 1 to 7.
+#[no_mangle]
+pub extern "C" fn rcds_strata_build(
+    state: &[u8],
+    string: &[u8],
+    nodes: &[u8],
+    shingles: &[u8],
+    cells: &[u8],
+    strata: &mut [u8],
+) -> u64
+    ensures { λ r. ⌜ Built (settingsIn (now (state .entry))) (lent (now (string .entry)) (now (nodes .entry)) (now (shingles .entry))
+        (now (cells .entry)) []) (now (strata .entry)) (now (strata .exit)) r ⌝ }
+{
+    let settings = sender::settings_of(state);
+    strata::build(settings, string, nodes, shingles, cells, strata)
+}
+
+// About how many shingles differ, from the other end's strata, the own ones and the own list. Asked are 1 to 7.
+#[no_mangle]
+pub extern "C" fn rcds_strata_estimate(
+    state: &[u8],
+    string: &[u8],
+    nodes: &[u8],
+    shingles: &[u8],
+    cells: &[u8],
+    theirs: &[u8],
+    own: &[u8],
+) -> u64
+    ensures { λ r. ⌜ Estimated (settingsIn (now (state .entry))) (lent (now (string .entry)) (now (nodes .entry)) (now (shingles .entry))
+        (now (cells .entry)) []) (now (theirs .entry)) (now (own .entry)) r ⌝ }
+{
+    let settings = sender::settings_of(state);
+    strata::estimate(settings, string, nodes, shingles, cells, theirs, own)
 }

@@ -4,3 +4,4 @@ pub mod First
 pub mod Tables
 pub mod Turns
 pub mod Differences
+pub mod Lengths

@@ -3,7 +3,7 @@ use mathlib.Core.Bool.{Bool, true, false, _&&_}
 use mathlib.Core.List.{List, _++_, map}
 use mathlib.Core.Path.{_≡_}
 use Prim.Native.Nat.{ℕ, _*_, _-_}
-use lib.Dec.{leb}
+use lib.Dec.{leb, eqb}
 use lib.ListN.{length, getD, replicate}
 use Rattle.rows.specs.Rows.{wordsOf}
 use Rattle.entries.specs.Entries.{tableBytes}
@@ -40,3 +40,9 @@ pub record Taken (levels q : ℕ) (theirs own new gone : List ℕ) (empty : Bool
   pub positive : widthFits q ≡ true → Lists new (positives (takenFrom levels q theirs own .taken))
   pub negative : widthFits q ≡ true → Lists gone (negatives (takenFrom levels q theirs own .taken))
   pub nothing : widthFits q ≡ false → (new ≡ replicate 4608 0) × (gone ≡ replicate 4608 0)
+
+-- The same in two lent tables, whatever they held. Where one has another length than for 192 shingles both are as they were, and the answer is
+-- false.
+pub record TakenInto (levels q : ℕ) (theirs own new new′ gone gone′ : List ℕ) (empty : Bool) : Type 0 where
+  pub taken : length new ≡ 4608 → length gone ≡ 4608 → Taken levels q theirs own new′ gone′ empty
+  pub left : (eqb (length new) 4608 && eqb (length gone) 4608) ≡ false → (new′ ≡ new) × ((gone′ ≡ gone) × (empty ≡ false))

@@ -2,6 +2,7 @@
 // output is what tests/reference prints; its program reference-vectors says the format.
 mod openings;
 mod ranges;
+mod strata;
 mod strings;
 
 use libc::STDOUT_FILENO;
@@ -225,4 +226,5 @@ fn main() {
     refused_setup_lines();
     openings::lines();
     ranges::lines();
+    strata::lines();
 }

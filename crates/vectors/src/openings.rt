@@ -32,7 +32,7 @@ fn describe(
 }
 
 // The middle byte is one more, 0 after 255.
-fn change(string: &mut [u8]) {
+pub fn change(string: &mut [u8]) {
     let middle = string.len() / 2;
     if middle < string.len() {
         let byte = string[middle];

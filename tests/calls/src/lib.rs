@@ -82,6 +82,38 @@ extern "C" {
         shingles_len: usize,
     ) -> u64;
 
+    pub fn rcds_strata_build(
+        state: *const u8,
+        state_len: usize,
+        string: *const u8,
+        string_len: usize,
+        nodes: *const u8,
+        nodes_len: usize,
+        shingles: *const u8,
+        shingles_len: usize,
+        cells: *const u8,
+        cells_len: usize,
+        strata: *mut u8,
+        strata_len: usize,
+    ) -> u64;
+
+    pub fn rcds_strata_estimate(
+        state: *const u8,
+        state_len: usize,
+        string: *const u8,
+        string_len: usize,
+        nodes: *const u8,
+        nodes_len: usize,
+        shingles: *const u8,
+        shingles_len: usize,
+        cells: *const u8,
+        cells_len: usize,
+        theirs: *const u8,
+        theirs_len: usize,
+        own: *const u8,
+        own_len: usize,
+    ) -> u64;
+
     pub fn rcds_receiver_setup(
         w: u64,
         p: u64,

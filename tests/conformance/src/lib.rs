@@ -18,6 +18,7 @@ pub mod replies;
 pub mod sessions;
 pub mod settings;
 pub mod setups;
+pub mod strata;
 pub mod trails;
 pub mod tree;
 mod two_threads;

@@ -3,9 +3,9 @@
 //!     conformance [GROUP...] [SEED [CASE]]
 //!     conformance [GROUP...] campaign SECONDS SEED
 //!
-//! The groups are `tree`, `crossed`, `trails`, `messages`, `setups`, `replies`, `openings` and `sessions`;
-//! none stands for all that are built in. Without a case it runs all of them, the cases of each on two
-//! threads, and prints a line for each call; it stops at the first that differs. With a case, and then
+//! The groups are `tree`, `crossed`, `trails`, `messages`, `setups`, `replies`, `openings`, `strata` and
+//! `sessions`; none stands for all that are built in. Without a case it runs all of them, the cases of each on
+//! two threads, and prints a line for each call; it stops at the first that differs. With a case, and then
 //! with one group, it runs that case alone.
 //!
 //! A campaign draws cases of fresh seeds, the first of which is given, for so many seconds, and stops also
@@ -69,6 +69,12 @@ const GROUPS: &[Group] = &[
         name: "openings",
         count: conformance::openings::count,
         run: openings::run,
+    },
+    #[cfg(feature = "strata")]
+    Group {
+        name: "strata",
+        count: conformance::strata::count,
+        run: strata::run,
     },
     #[cfg(feature = "sessions")]
     Group {
@@ -177,6 +183,25 @@ mod openings {
         match case {
             None => run_all(seed, rcds_sketch_open),
             Some(number) => run_one(seed, number, rcds_sketch_open),
+        }
+    }
+}
+
+#[cfg(feature = "strata")]
+mod strata {
+    use calls::{rcds_strata_build, rcds_strata_estimate};
+    use conformance::failure::Failure;
+    use conformance::strata::{run_all, run_one, Calls};
+
+    const CALLS: Calls = Calls {
+        build: rcds_strata_build,
+        estimate: rcds_strata_estimate,
+    };
+
+    pub fn run(seed: u64, case: Option<usize>) -> Result<Vec<String>, Failure> {
+        match case {
+            None => run_all(seed, CALLS),
+            Some(number) => run_one(seed, number, CALLS),
         }
     }
 }

@@ -25,6 +25,7 @@ pub mod settings;
 pub mod shingle;
 pub mod shingle_table;
 pub mod sketch;
+pub mod strata;
 pub mod trail;
 pub mod tree;
 pub mod vectors;

@@ -3,7 +3,7 @@
 use crate::crossed::{self, Crossed};
 use crate::opening::MOST_SHINGLES;
 use crate::settings::Settings;
-use crate::{cell_table, node_table, sender, shingle_table};
+use crate::{cell_table, node_table, sender, shingle_table, strata};
 
 /// The bytes of a string that question 6 allows.
 pub const MOST_BYTES: usize = 65_536;
@@ -60,6 +60,11 @@ pub fn cell_table_allowed(table: &[u8], width: u64) -> bool {
 /// The same, asked of the state, which is lent with the tables.
 pub fn state_allowed(state: &[u8]) -> bool {
     state.len() >= sender::STATE_BYTES
+}
+
+/// The same, asked of a table of strata: "only there question 7 also wants 192 cells for each".
+pub fn strata_allowed(table: &[u8]) -> bool {
+    table.len() >= strata::TABLE_BYTES
 }
 
 /// "8 at most 4,096 nodes?"

@@ -16,7 +16,7 @@ use crate::shingle::shingles;
 use crate::sketch::sketch;
 use crate::trail::{number_of_order, order_of_number, Pair, MOST_IDS};
 use crate::tree::tree;
-use crate::{cell_table, node_table, sender, shingle_table};
+use crate::{cell_table, node_table, sender, shingle_table, strata};
 
 /// From this number on an answer says "accepted".
 pub const ACCEPTED: u64 = 1 << 32;
@@ -218,6 +218,38 @@ pub fn rcds_sketch_open(
         }
         Err(_) => 14,
     }
+}
+
+/// `rcds_strata_build`: the strata of the shingle table's list to the front of the table. Asks 1 to 7, in
+/// this order, 7 also of the table. Answers 0. The state may be of either end.
+///
+/// "Every later call of either end first asks 1 to 7 again, of the settings it holds and of what is
+/// lent; a no changes nothing."
+pub fn rcds_strata_build(state: &[u8], lent: &Lent, table: &mut [u8]) -> u64 {
+    let (settings, width) = sender::held(state);
+    if let Some(question) = lent.refused(&settings, width) {
+        return question;
+    }
+    if !questions::strata_allowed(table) {
+        return 7;
+    }
+    strata::write(&strata::build(&lent.shingle_list()), table);
+    0
+}
+
+/// `rcds_strata_estimate`: about how many shingles differ, from the other end's strata, the own ones and
+/// the shingle table's list. Asks 1 to 7, in this order, 7 also of both tables of strata. "only building
+/// writes them"
+pub fn rcds_strata_estimate(state: &[u8], lent: &Lent, theirs: &[u8], own: &[u8]) -> u64 {
+    let (settings, width) = sender::held(state);
+    if let Some(question) = lent.refused(&settings, width) {
+        return question;
+    }
+    if !(questions::strata_allowed(theirs) && questions::strata_allowed(own)) {
+        return 7;
+    }
+    let (theirs, own) = (strata::read(theirs), strata::read(own));
+    ACCEPTED + strata::estimate(settings.levels, &theirs, &own, &lent.shingle_list())
 }
 
 /// `rcds_receiver_setup`: the tables as the sender's setup leaves them, and the state of a session

@@ -2,11 +2,15 @@
 //! The head of `bin/reference-vectors.rs` says the format.
 
 use crate::fnv::{block_id, fnv1a};
+use crate::lent::Lent;
 use crate::listing::line;
-use crate::node_table;
-use crate::rcds::{rcds_crossed, rcds_sender_setup, rcds_sketch_open, rcds_tree, ACCEPTED};
+use crate::rcds::{
+    rcds_crossed, rcds_sender_setup, rcds_sketch_open, rcds_strata_build, rcds_strata_estimate,
+    rcds_tree, ACCEPTED,
+};
 use crate::row::number;
 use crate::settings::Settings;
+use crate::{node_table, sender, strata};
 
 /// Published inputs of FNV-1a.
 pub const PUBLISHED: [&str; 12] = [
@@ -94,6 +98,20 @@ pub const RANGES: [[u64; 3]; 11] = [
     [0, 17, 64],
     [u64::MAX, 2, 64],
 ];
+
+/// w, p, L, M, q of the settings with which the senders are set up whose strata are compared.
+pub const STRATA_SETTINGS: [[u64; 5]; 3] =
+    [[2, 2, 1, 2, 64], [4, 4, 3, 4_096, 17], [2, 8, 4, 4_096, 63]];
+
+/// The lengths of their strings, and the kinds of the first's and of the second's.
+pub const STRATA_LENGTHS: [usize; 3] = [100, 4_527, 20_000];
+pub const STRATA_KINDS: [[u64; 2]; 5] = [[2, 2], [4, 4], [5, 5], [2, 3], [4, 2]];
+
+/// w, p, L, M, q of the strata that are refused, of 100 bytes of kind 2.
+pub const REFUSED_STRATA: [[u64; 5]; 2] = [[2, 2, 1, 2, 65], [2, 2, 5, 32, 64]];
+
+/// How many bytes of a table of strata are lent past its 192 cells.
+pub const PAST_THE_STRATA: usize = 8;
 
 /// The bytes of the tables and of the state before each call.
 pub const BEFORE: u8 = 170;
@@ -242,14 +260,39 @@ pub fn setup_lines() -> Vec<String> {
     lines
 }
 
+/// A sender of a string, set up over tables and a state of zeros: its state, and what it lends.
+fn sender_of(settings: &Settings, width: u64, string: &[u8]) -> (Vec<u8>, Lent) {
+    let mut state = vec![0; sender::STATE_BYTES];
+    let [nodes, shingles, cells] = [65_536, 98_304, 7_680].map(|length| vec![0; length]);
+    let mut lent = Lent {
+        string: string.to_vec(),
+        nodes,
+        shingles,
+        cells,
+    };
+    rcds_sender_setup(
+        settings,
+        width,
+        &lent.string,
+        &mut lent.nodes,
+        &mut lent.shingles,
+        &mut lent.cells,
+        &mut state,
+    );
+    (state, lent)
+}
+
 /// The shingle table and the cell table of a string, as a setup leaves tables of zeros.
 fn described(settings: &Settings, width: u64, string: &[u8]) -> [Vec<u8>; 2] {
-    let [mut nodes, mut list, mut cells, mut state] =
-        [65_536, 98_304, 7_680, 40].map(|length| vec![0; length]);
-    rcds_sender_setup(
-        settings, width, string, &mut nodes, &mut list, &mut cells, &mut state,
-    );
-    [list, cells]
+    let (_, lent) = sender_of(settings, width, string);
+    [lent.shingles, lent.cells]
+}
+
+/// Adds one to the string's middle byte, 0 after 255. An empty string stays as it is.
+fn change_the_middle(string: &mut [u8]) {
+    if let Some(middle) = string.get_mut(string.len() / 2) {
+        *middle = middle.wrapping_add(1);
+    }
 }
 
 /// The line of one opening: the sketch of a string with its middle byte changed, over the string's own
@@ -264,9 +307,7 @@ fn opening_line(settings: [u64; 5], kind: u64, length: usize) -> String {
     };
     let mut string = string(kind, length);
     let [mut list, own] = described(&settings, width, &string);
-    if let Some(middle) = string.get_mut(length / 2) {
-        *middle = middle.wrapping_add(1);
-    }
+    change_the_middle(&mut string);
     let [_, theirs] = described(&settings, width, &string);
     let answer = rcds_sketch_open(levels, width, &theirs, &own, &mut list);
     let digest = fnv1a(&list);
@@ -319,5 +360,48 @@ pub fn crossed_lines() -> Vec<String> {
         lines.extend(node_lines(&nodes));
         lines.extend(RANGES.map(|range| crossed_line(&string, &nodes, range)));
     }
+    lines
+}
+
+/// The line of two senders' strata: both tables, and the first's estimate.
+fn strata_line(settings: [u64; 5], [kind, other]: [u64; 2], length: usize) -> String {
+    let [w, p, levels, nominal, width] = settings;
+    let settings = Settings {
+        window: w,
+        fan_out: p,
+        levels,
+        nominal,
+    };
+    let mut second = string(other, length);
+    if other == kind {
+        change_the_middle(&mut second);
+    }
+    let [first, second] = [string(kind, length), second].map(|string| {
+        let (state, lent) = sender_of(&settings, width, &string);
+        let mut table = vec![BEFORE; strata::TABLE_BYTES + PAST_THE_STRATA];
+        rcds_strata_build(&state, &lent, &mut table);
+        (state, lent, table)
+    });
+    let (state, lent, own) = first;
+    let (_, _, theirs) = second;
+    let answer = rcds_strata_estimate(&state, &lent, &theirs, &own);
+    let digests = [own, theirs].map(|table| fnv1a(&table));
+    let settings = [w, p, levels, nominal, width];
+    let strings = [kind, other, length as u64];
+    line(
+        "strata",
+        &[&settings[..], &strings, &digests, &[answer]].concat(),
+    )
+}
+
+/// The lines of all strata.
+pub fn strata_lines() -> Vec<String> {
+    let mut lines = Vec::new();
+    for settings in STRATA_SETTINGS {
+        for length in STRATA_LENGTHS {
+            lines.extend(STRATA_KINDS.map(|kinds| strata_line(settings, kinds, length)));
+        }
+    }
+    lines.extend(REFUSED_STRATA.map(|settings| strata_line(settings, [2, 2], 100)));
     lines
 }

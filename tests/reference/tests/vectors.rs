@@ -1,6 +1,9 @@
 //! The strings and lines that the program `vectors` is compared with.
 
-use reference::vectors::{crossed_lines, fnv_lines, setup_lines, string, tree_lines};
+use reference::fnv::fnv1a;
+use reference::vectors::{
+    crossed_lines, fnv_lines, setup_lines, strata_lines, string, tree_lines, STRATA_KINDS,
+};
 
 #[test]
 fn strings_of_each_kind() {
@@ -66,4 +69,39 @@ fn lines_of_trees_that_are_crossed() {
     assert_eq!(lines[..by_hand.len()], by_hand);
     let exact = "crossed 16 1 5 4294967301 0 0 1 0 10 1 15 10 18 15";
     assert!(lines.iter().any(|line| line == exact));
+}
+
+#[test]
+fn lines_of_strata() {
+    let lines = strata_lines();
+    assert_eq!(lines.len(), 47);
+    let words: Vec<Vec<&str>> = lines.iter().map(|line| line.split(' ').collect()).collect();
+    // OWN and THEIRS.
+    let [own, theirs] = [9, 10];
+    let answers = words.iter().map(|words| words[11]);
+    let answers: Vec<u64> = answers
+        .map(|word| word.parse().expect("a number"))
+        .collect();
+    // The trees of 20,000 bytes with the last settings have too many nodes: those senders have no state either.
+    let untouched = fnv1a(&[170; 7_688]).to_string();
+    for (words, &answer) in words[40..].iter().zip(&answers[40..]) {
+        assert_eq!(
+            (words[own], words[theirs], answer),
+            (&*untouched, &*untouched, 1)
+        );
+    }
+    assert!(answers[..40].iter().all(|&answer| answer >> 32 == 1));
+    assert!(answers.iter().any(|&answer| answer > (1 << 32) + 1_000));
+    // Of the same settings and length, the string of kind 2 is the first's of two lines and the second's of one.
+    assert_eq!(
+        [STRATA_KINDS[0][0], STRATA_KINDS[3][0], STRATA_KINDS[4][1]],
+        [2; 3]
+    );
+    for five in words[..40].chunks(5) {
+        assert_eq!(
+            (five[3][own], five[4][theirs]),
+            (five[0][own], five[0][own])
+        );
+        assert!(five.iter().all(|words| words[own] != words[theirs]));
+    }
 }

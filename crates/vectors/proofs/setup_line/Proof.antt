@@ -1,22 +1,14 @@
 -- The part that is lent has as many bytes as asked for.
-use mathlib.Core.Path.{sym}
-use lib.Seq.{length-take-le}
-use lib.ListN.{replicate, length-replicate}
-use Prim.Native.Nat.{ℕ, _≤_}
-use mathlib.Core.Path.{_≡_}
-use native.Mathlib.Omega.{arith}
 use borrow.Author.Needs.{needs}
+use Rattle.vectors.proofs.Fronts.{front-long}
 use Rattle.vectors.proofs.setup_line.Statement.{statement}
 use Rattle.vectors.proofs.setup_line.Tie as tie
-
-within : (n size room : ℕ) → n ≤ size → room ≡ size → n ≤ room
-within n size room h e = omega arith
 
 array-borrow-prefix-string : tie.Need-array-borrow-prefix-string
 array-borrow-prefix-string c = search needs
 
 slice-aggregate-string-setup-line : tie.Need-slice-aggregate-string-setup-line
-slice-aggregate-string-setup-line c = sym (length-take-le _ (replicate 65537 0) (within _ _ _ (c .before .if1 .taken) (length-replicate {A = ℕ} 65537 0)))
+slice-aggregate-string-setup-line c = front-long 65537 0 _ (c .before .if1 .taken)
 
 string-setup-line-requires : tie.Need-string-setup-line-requires
 string-setup-line-requires c κs = search needs

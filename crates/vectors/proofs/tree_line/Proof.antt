@@ -1,22 +1,14 @@
 -- The part that is lent has as many bytes as asked for.
-use mathlib.Core.Path.{sym}
-use lib.Seq.{length-take-le}
-use lib.ListN.{replicate, length-replicate}
-use Prim.Native.Nat.{ℕ, _≤_}
-use mathlib.Core.Path.{_≡_}
-use native.Mathlib.Omega.{arith}
 use borrow.Author.Needs.{needs}
+use Rattle.vectors.proofs.Fronts.{front-long}
 use Rattle.vectors.proofs.tree_line.Statement.{statement}
 use Rattle.vectors.proofs.tree_line.Tie as tie
-
-within : (n size room : ℕ) → n ≤ size → room ≡ size → n ≤ room
-within n size room h e = omega arith
 
 array-borrow-prefix-string : tie.Need-array-borrow-prefix-string
 array-borrow-prefix-string c = search needs
 
 slice-aggregate-string-line : tie.Need-slice-aggregate-string-line
-slice-aggregate-string-line c = sym (length-take-le _ (replicate 65537 0) (within _ _ _ (c .before .if1 .taken) (length-replicate {A = ℕ} 65537 0)))
+slice-aggregate-string-line c = front-long 65537 0 _ (c .before .if1 .taken)
 
 string-line-requires : tie.Need-string-line-requires
 string-line-requires c κs = search needs

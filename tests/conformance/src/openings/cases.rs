@@ -5,14 +5,14 @@ use super::forged::{
     any_cells, forge, odd_list, of_one_pair, taken_twice, Forgery, Oddity, FORGERIES, ODDITIES,
 };
 use super::lists::{
-    cells, count as any_count, difference, list, of_strings, shingle, shuffled, some_of, MINUS,
+    cells, count as any_count, difference, list, of_strings, shingle, shuffled, some_of, table,
+    MINUS,
 };
 use crate::failure::first_bytes;
 use crate::random::{family_of, together, Random};
 use reference::cell_table;
 use reference::opening::takings;
 use reference::shingle::Shingle;
-use reference::shingle_table::entry;
 use reference::sketch::{plus, sketch, Cell};
 use std::fmt;
 
@@ -429,9 +429,6 @@ const WIDTHS: [u64; 11] = [
     u64::MAX,
 ];
 
-/// The largest level that a tail of 64 bits has.
-const LARGEST_LEVEL: u64 = (1 << 48) - 1;
-
 fn lent(family: Family, place: usize, seed: u64, number: usize, random: &mut Random) -> Case {
     let plan = plan(family, random);
     let own = plan.own(random);
@@ -496,33 +493,5 @@ fn cell_bytes(cells: &[Cell], random: &mut Random) -> Vec<u8> {
     let mut bytes: Vec<u8> = cells.iter().flat_map(cell_table::bytes).collect();
     let more = random.one_of(&[0, 0, 0, 1, 39, 40, 200]);
     bytes.extend(random.bytes(more));
-    bytes
-}
-
-/// The list, an entry of count 0 where there is room, and after it zeros or any bytes. A long table
-/// has room for the whole list, and in some cases none for the entry that ends it.
-fn table(list: &[Shingle], long: bool, random: &mut Random) -> Vec<u8> {
-    let mut bytes: Vec<u8> = list.iter().flat_map(entry).collect();
-    let end = Shingle {
-        level: random.one_of(&[0, 1, LARGEST_LEVEL]),
-        previous: random.number(),
-        own: random.number(),
-        count: 0,
-    };
-    let more = random.one_of(&[0, 0, 0, 1, 23, 24, 25, 100]);
-    let length = match long {
-        true => 98_304.max(bytes.len()) + more,
-        false => 98_304 + more,
-    };
-    bytes.extend(match random.between(0, 2) {
-        0 => [0; 24],
-        _ => entry(&end),
-    });
-    let rest = length.saturating_sub(bytes.len());
-    bytes.extend(match random.between(0, 2) {
-        0 => vec![0; rest],
-        _ => random.bytes(rest),
-    });
-    bytes.truncate(length);
     bytes
 }

@@ -1,9 +1,12 @@
-//! Lists of shingles, and cells that differ by signed shingles.
+//! Lists of shingles and their tables, and cells that differ by signed shingles.
 
 use crate::content::{self, KINDS};
 use crate::random::Random;
 use crate::settings::any_allowed;
+#[cfg(test)]
+use reference::cell_table::{self, CELL_BYTES};
 use reference::shingle::{shingles, Shingle};
+use reference::shingle_table::entry;
 use reference::sketch::{part, places, Cell};
 use reference::tree::tree;
 use std::collections::BTreeSet;
@@ -13,6 +16,9 @@ pub type Signed = (Shingle, u64);
 
 /// −1 modulo 2^64.
 pub const MINUS: u64 = u64::MAX;
+
+/// The largest level that a tail of 64 bits has.
+const LARGEST_LEVEL: u64 = (1 << 48) - 1;
 
 /// An id: mostly any, some of them small or 0.
 pub fn id(random: &mut Random) -> u64 {
@@ -60,22 +66,28 @@ pub fn list(length: usize, levels: u64, random: &mut Random) -> Vec<Shingle> {
     list
 }
 
+/// The string with some bytes changed, put in or taken out, or as it is.
+pub fn edited(string: &[u8], random: &mut Random) -> Vec<u8> {
+    let mut edited = string.to_vec();
+    for _ in 0..random.between(0, 3) {
+        let place = random.between(0, edited.len() as u64) as usize;
+        match random.between(0, 2) {
+            0 => edited.insert(place, random.number() as u8),
+            1 if place < edited.len() => drop(edited.remove(place)),
+            _ if place < edited.len() => edited[place] = random.number() as u8,
+            _ => {}
+        }
+    }
+    edited
+}
+
 /// The lists of a string and of the string with some bytes changed, cut with the same settings.
 pub fn of_strings(random: &mut Random) -> (u64, Vec<Shingle>, Vec<Shingle>) {
     let settings = any_allowed(random);
     let kind = random.one_of(&KINDS);
     let length = random.by_size(0, 800) as usize;
     let own = content::string(kind, length, random);
-    let mut theirs = own.clone();
-    for _ in 0..random.between(0, 3) {
-        let place = random.between(0, theirs.len() as u64) as usize;
-        match random.between(0, 2) {
-            0 => theirs.insert(place, random.number() as u8),
-            1 if place < theirs.len() => drop(theirs.remove(place)),
-            _ if place < theirs.len() => theirs[place] = random.number() as u8,
-            _ => {}
-        }
-    }
+    let theirs = edited(&own, random);
     let of = |string: &[u8]| shingles(&tree(&settings, string));
     (settings.levels, of(&own), of(&theirs))
 }
@@ -123,4 +135,41 @@ pub fn some_of(list: &[Shingle], count: usize, random: &mut Random) -> Vec<Shing
 /// A list in any order.
 pub fn shuffled(list: &[Shingle], random: &mut Random) -> Vec<Shingle> {
     some_of(list, list.len(), random)
+}
+
+/// The list, an entry of count 0 where there is room, and after it zeros or any bytes. A long table
+/// has room for the whole list, and in some cases none for the entry that ends it.
+pub fn table(list: &[Shingle], long: bool, random: &mut Random) -> Vec<u8> {
+    let mut bytes: Vec<u8> = list.iter().flat_map(entry).collect();
+    let end = Shingle {
+        level: random.one_of(&[0, 1, LARGEST_LEVEL]),
+        previous: random.number(),
+        own: random.number(),
+        count: 0,
+    };
+    let more = random.one_of(&[0, 0, 0, 1, 23, 24, 25, 100]);
+    let length = match long {
+        true => 98_304.max(bytes.len()) + more,
+        false => 98_304 + more,
+    };
+    bytes.extend(match random.between(0, 2) {
+        0 => [0; 24],
+        _ => entry(&end),
+    });
+    let rest = length.saturating_sub(bytes.len());
+    bytes.extend(match random.between(0, 2) {
+        0 => vec![0; rest],
+        _ => random.bytes(rest),
+    });
+    bytes.truncate(length);
+    bytes
+}
+
+/// The 3q cells of a table, 0 where it ends: what a function reads that has not asked for the table's length.
+#[cfg(test)]
+pub fn cells_there(table: &[u8], width: u64) -> Vec<Cell> {
+    let needed = 3 * width as usize * CELL_BYTES;
+    let mut table = table.to_vec();
+    table.resize(table.len().max(needed), 0);
+    cell_table::read(&table, width)
 }

@@ -2,8 +2,8 @@
 
 mod cases;
 mod compare;
-mod forged;
-mod lists;
+pub(crate) mod forged;
+pub(crate) mod lists;
 mod report;
 
 #[cfg(test)]

@@ -8,6 +8,7 @@ use super::report::run;
 use super::setup::held;
 use crate::lent::{part, part_mut};
 use crate::messages::order;
+use crate::openings::lists::cells_there;
 use reference::fnv::fnv1a;
 use reference::lent::Lent;
 use reference::message::{encode, parse, Body, Message, Opening};
@@ -149,10 +150,8 @@ fn opening(fault: u8, settings: &Settings, width: u64, lent: &Lent) -> Body {
             let with_cells: Vec<Shingle> = list.filter(|s| s.tail() < 1 << 32).collect();
             sketch(&with_cells, width)
         }
-        _ => lent.cell_list(width),
+        _ => cells_there(&lent.cells, width),
     };
-    // A function that does not ask for the cells' length reads less than there should be.
-    cells.resize(3 * width as usize, [0; 5]);
     if fault == CELL_VALUES_REORDERED {
         cells.iter_mut().for_each(|cell| cell.swap(1, 2));
     }

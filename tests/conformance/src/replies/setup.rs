@@ -8,6 +8,7 @@ use reference::node_table;
 use reference::rcds::ACCEPTED;
 use reference::reply::reply;
 use reference::sender;
+pub use reference::sender::held;
 use reference::settings::Settings;
 use reference::tree::Node;
 
@@ -62,20 +63,4 @@ impl Sender {
         let answer = reply(&self.settings, self.width, &self.lent, message, &mut buffer);
         answer.saturating_sub(ACCEPTED) as usize
     }
-}
-
-/// The settings that a state holds, and the width: rows of 64 bits, 0 for a row that is not there in
-/// full.
-pub fn held(state: &[u8]) -> (Settings, u64) {
-    let row = |k: usize| match state.chunks_exact(8).nth(k) {
-        Some(bytes) => u64::from_be_bytes(bytes.try_into().expect("a row has 8 bytes")),
-        None => 0,
-    };
-    let settings = Settings {
-        window: row(0),
-        fan_out: row(1),
-        levels: row(2),
-        nominal: row(3),
-    };
-    (settings, row(4))
 }

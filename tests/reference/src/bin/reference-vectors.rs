@@ -41,6 +41,17 @@
 //!      16 bytes each, that are all 170 before the call. Where it is accepted, `NODE PARENT` of each entry
 //!      of the answer follow on the same line. START, LENGTH and ROOM are 0 0 0, 0 1 64, 1 1 64, 1 2 64,
 //!      0 5 4, 0 5 3, 5 0 0, 16 1 5, 16 2 64, 0 17 64, 18446744073709551615 2 64.
+//! 7. `strata W P L M Q KIND OTHER LENGTH OWN THEIRS ANSWER`, 47 lines. Two senders are set up with these
+//!    settings, each over tables and a state of zeros (tables of 65,536, 98,304 and 7,680 bytes, a state of
+//!    40): for the string of KIND and LENGTH, and for the string of OTHER and LENGTH, which where OTHER
+//!    equals KIND has byte LENGTH / 2 one more, 0 after 255. Each builds its strata with `rcds_strata_build`
+//!    into a table of 7,688 bytes that are all 170 before the call. OWN and THEIRS are FNV-1a of the first's
+//!    and of the second's 7,688 bytes after it. ANSWER is the answer of `rcds_strata_estimate` with the
+//!    first's state, string and tables over the second's strata and the first's, all 7,688 bytes of each.
+//!    A setup that is refused leaves zeros, the state's too.
+//!    - For each of the settings 2 2 1 2 64, 4 4 3 4096 17, 2 8 4 4096 63: for each length of 100, 4527,
+//!      20000, for each KIND OTHER of 2 2, 4 4, 5 5, 2 3, 4 2, a line.
+//!    - Then two lines that are refused: 2 2 and length 100 with the settings 2 2 1 2 65, 2 2 5 32 64.
 //!
 //! Strings. The random bytes of a string: x starts at 8 × length + kind; for each byte first
 //! x = (x × 6364136223846793005 + 1442695040888963407) mod 2^64, then the byte is x / 2^56.
@@ -52,12 +63,14 @@
 //!   256, where t = k mod 1000 and v = 8 × t if t < 500, else 8 × (1000 − t).
 //! - Kind 5: the first 37 random bytes, over and over: byte i is byte i − 37 from 37 on.
 
-use reference::vectors::{crossed_lines, fnv_lines, opening_lines, setup_lines, tree_lines};
+use reference::vectors::{
+    crossed_lines, fnv_lines, opening_lines, setup_lines, strata_lines, tree_lines,
+};
 
 fn main() {
     let lines = fnv_lines().into_iter().chain(tree_lines());
     let lines = lines.chain(setup_lines()).chain(opening_lines());
-    for line in lines.chain(crossed_lines()) {
+    for line in lines.chain(crossed_lines()).chain(strata_lines()) {
         println!("{line}");
     }
 }

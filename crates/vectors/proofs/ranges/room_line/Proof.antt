@@ -1,17 +1,15 @@
 -- The part that is lent has as many bytes as asked for.
-use mathlib.Core.Path.{sym, _≡_}
+use mathlib.Core.Path.{_≡_}
 use Prim.Native.Nat.{ℕ, _*_, _≤_}
 use native.Mathlib.Omega.{arith}
 use borrow.Author.Needs.{needs}
-use lib.ListN.{length, take, replicate, length-replicate}
-use lib.Seq.{length-take-le}
+use lib.ListN.{length, take, replicate}
+use Rattle.vectors.proofs.Fronts.{front-long}
 use Rattle.vectors.proofs.ranges.room_line.Statement.{statement}
 use Rattle.vectors.proofs.ranges.room_line.Tie as tie
 
 room-taken : (room : ℕ) → room ≤ 64 → room * 16 ≡ length (take (room * 16) (replicate {A = ℕ} 1024 170))
-room-taken room h =
-    let long : length (replicate {A = ℕ} 1024 170) ≡ 1024 = length-replicate {A = ℕ} 1024 170 in
-    sym (length-take-le (room * 16) (replicate {A = ℕ} 1024 170) (omega arith))
+room-taken room h = front-long 1024 170 (room * 16) (omega arith)
 
 mul-crossed : tie.Need-mul-crossed
 mul-crossed c = search needs

@@ -6,6 +6,7 @@ use super::receiver::{
 };
 use super::*;
 use crate::messages::order::{each_once, put_in_order};
+use crate::openings::lists::cells_there;
 use reference::fnv::fnv1a;
 use reference::lent::Lent;
 use reference::message::{parse, Body, Message, Opening};
@@ -223,8 +224,7 @@ fn opened(fault: u8, rows: &[u64], lent: &Lent, opening: &Opening) -> Option<Vec
     let (levels, width) = (rows[LEVELS], rows[WIDTH]);
     let own = lent.shingle_list();
     // A function that has not asked for the cells' length, or 12, reads what is there.
-    let mut own_cells = lent.cell_list(width);
-    own_cells.resize(3 * width as usize, [0; 5]);
+    let own_cells = cells_there(&lent.cells, width);
     let mut theirs = opening.cells.clone();
     theirs.resize(3 * width as usize, [0; 5]);
     let takings = takings(&difference(&theirs, &own_cells), levels, width);
