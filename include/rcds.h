@@ -643,8 +643,8 @@ uint64_t rcds_sketch_open(uint64_t levels, uint64_t width,
  * Strata.
  *
  * Two ends that have not chosen a sketch width yet can estimate how many of
- * their shingles differ. Each shingle goes to one of 16 strata: as many as its
- * check hash has trailing zero bits, 15 at most. So about half of a list goes to
+ * their shingles differ. A shingle whose check hash ends in i zero bits goes to
+ * stratum i, one with more than 15 of them to stratum 15: about half of a list to
  * stratum 0, a quarter to stratum 1, and so on. Each stratum is a sketch of
  * width 4, 12 cells; stratum i has cells 12 * i to 12 * i + 11 of the table,
  * which rcds_cell_value reads.
