@@ -7,7 +7,7 @@ use Rattle.shingle.specs.declared.Shingle.{Shingle}
 use Rattle.sketch.specs.Cells.{tagOf}
 use Rattle.strata.specs.Strata.{stratumFrom, stratumOf}
 
-pub above : (hash zeros : ℕ) → zeros ≡ trailingZeros 64 hash → 15 < zeros → 15 ≡ stratumFrom hash
+pub above : (hash zeros : ℕ) → zeros ≡ trailingZeros 64 hash → 15 ≤ zeros → 15 ≡ stratumFrom hash
 unfolding stratumFrom
 above hash zeros e h = omega arith
 

@@ -57,11 +57,12 @@ module _ (levels : ℕ) (theirs own shingles : List ℕ) (sum left : ℕ) (s : S
         let small = s .small in
         omega (arith, number, twelve levels (stratumRows (left - 1) theirs) (stratumRows (left - 1) own))
 
-    pub sum-stop : opens ≡ false → (sum * 2 ^ left) % 2 ^ 64 ≡ estimateOf levels theirs own (shinglesIn shingles)
-    sum-stop e =
+    pub sum-stop : opens ≡ false → (places : ℕ) → places ≡ left → (sum * 2 ^ places) % 2 ^ 64 ≡ estimateOf levels theirs own (shinglesIn shingles)
+    sum-stop e places same =
         let most = s .most in
         let small = s .small in
-        shl-exact {a = sum} 8 left 64 (omega arith) (omega arith)
+        ap (λ (n : ℕ). (sum * 2 ^ n) % 2 ^ 64) same
+        ∙ shl-exact {a = sum} 8 left 64 (omega arith) (omega arith)
         ∙ (sym (turn ∙ rw (sym verdict ∙ e)) ∙ s .is)
 
     pub sum-next : opens ≡ true → Summing levels theirs own shingles (sum + count) (left - 1)

@@ -52,7 +52,7 @@ returns : tie.Need-returns Inv-loop μ-loop
 returns c =
     let listing = c .before .before in
     let turn = listing .before .before .before in
-    sum-stop _ _ _ _ _ _ (turn .before .loop .inv) (turn .loop-test .taken) _ _ (listing .open-stratum .ensures) (not-true _ (c .if1 .taken))
+    sum-stop _ _ _ _ _ _ (turn .before .loop .inv) (turn .loop-test .taken) _ _ (listing .open-stratum .ensures) (not-true _ (c .if1 .taken)) _ (omega arith)
 
 add-sum : tie.Need-add-sum Inv-loop μ-loop
 add-sum c =

@@ -10,10 +10,10 @@ cast-zeros : tie.Need-cast-zeros
 cast-zeros c = omega (arith, trailing-le 64 (c .args .hash))
 
 returns : tie.Need-returns
-returns c = above _ _ refl (c .if1 .taken)
+returns c = above (c .before .args .hash) _ refl (omega (arith, c .if1 .taken))
 
 returns-2 : tie.Need-returns-2
-returns-2 c = within _ _ refl (c .if1 .left)
+returns-2 c = within (c .before .args .hash) _ refl (omega (arith, c .if1 .left))
 
 pub of-hash-spec : {M : Type 1} → statement M
 of-hash-spec = tie.close (tie.spec cast-zeros returns returns-2)
