@@ -2,7 +2,7 @@
 //!
 //! A cost is given in microseconds and in plain FNV-1a passes over 64 KiB, timed in the same run.
 
-mod ends;
+pub mod ends;
 mod measure;
 mod walk;
 

@@ -1,7 +1,7 @@
 //! What a hostile sender or a spoilt list may cost: every stratum opens and lists as many as it can, over a
 //! list of 4,096 that is searched to its end.
 
-use super::ends::End;
+use super::ends::set_up;
 use super::lists::{settings, strata, Asked};
 use conformance::random::Random;
 use reference::shingle::Shingle;
@@ -77,7 +77,7 @@ fn forged(name: &str, id: Option<u64>, gone: bool) -> Asked {
     last.sort();
     let mut list = random_list(OWN - last.len(), OWN_LEVEL, id, &mut random);
     list.extend(last);
-    let mut end = End::new(&settings([8, 8, 4, 8_192]), &[]).expect("an empty string");
+    let mut end = set_up(&settings([8, 8, 4, 8_192]), &[]).expect("an empty string");
     shingle_table::write(&list, &mut end.lent.shingles);
     let own = strata(&end);
     let theirs = read(&own).into_iter().zip(&all).map(|(cells, listed)| {

@@ -1,6 +1,7 @@
 //! The lists of strings that are measured.
 
-use super::ends::{build, End};
+use super::ends::{build, set_up};
+use crate::sessions::ends::End;
 use reference::settings::Settings;
 use reference::shingle::Shingle;
 use reference::strata::TABLE_BYTES;
@@ -64,14 +65,14 @@ fn changed(settings: &Settings, string: &[u8], bytes: usize) -> End {
         (1..=bytes).for_each(|k| string[k * apart - shift] ^= 0x55);
         string
     };
-    let mut ends = (0..apart).filter_map(|shift| End::new(settings, &at(shift)).ok());
+    let mut ends = (0..apart).filter_map(|shift| set_up(settings, &at(shift)).ok());
     ends.next().expect("one that is not refused")
 }
 
 /// The string of the next shorter length that is not refused, whose random bytes are others.
 fn another(settings: &Settings, kind: u64, length: usize) -> End {
     let shorter = (0..length).rev().map(|length| string(kind, length));
-    let mut ends = shorter.filter_map(|string| End::new(settings, &string).ok());
+    let mut ends = shorter.filter_map(|string| set_up(settings, &string).ok());
     ends.next().expect("one that is not refused")
 }
 
@@ -86,7 +87,7 @@ fn differ(one: &End, other: &End) -> usize {
 pub fn of_string((numbers, (content, kind), length): &List) -> Vec<Asked> {
     let settings = settings(*numbers);
     let string = string(*kind, *length);
-    let end = End::new(&settings, &string).expect("a string that is not refused");
+    let end = set_up(&settings, &string).expect("a string that is not refused");
     let [w, p, levels, nominal] = numbers;
     let others = [
         ("equal", end.clone()),

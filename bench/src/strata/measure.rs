@@ -1,8 +1,9 @@
 //! Costs of building strata, and of one estimate.
 
-use super::ends::{build, estimate, set_up, End};
+use super::ends::{build, estimate, set_up};
 use super::lists::{settings, strata, Asked, List};
 use crate::pass::{cost, Cost};
+use crate::sessions::ends::{set_up_sender, End};
 use reference::sender::held;
 use reference::strata::{open, read, STRATA, TABLE_BYTES};
 use reference::vectors::string;
@@ -43,7 +44,7 @@ fn of_building(end: &End) -> Cost {
 pub fn built((numbers, content, length): &List) -> Built {
     let settings = settings(*numbers);
     let string = string(content.1, *length);
-    let end = End::new(&settings, &string).expect("a string that is not refused");
+    let end = set_up(&settings, &string).expect("a string that is not refused");
     let mut expected = vec![0; TABLE_BYTES];
     let answer = reference::rcds::rcds_strata_build(&end.state, &end.lent, &mut expected);
     let equal = answer == 0 && strata(&end) == expected;
@@ -51,7 +52,7 @@ pub fn built((numbers, content, length): &List) -> Built {
     let building = of_building(&end);
     let mut again = end.clone();
     let setup = cost(|| {
-        black_box(set_up(&settings, black_box(&mut again)));
+        black_box(set_up_sender(&settings, black_box(&mut again)));
     });
     let [w, p, levels, nominal] = numbers;
     Built {
