@@ -7,6 +7,7 @@ mod growth;
 mod measure;
 mod strings;
 mod table;
+mod windows;
 
 /// Measures and prints.
 pub fn run() {
@@ -27,4 +28,9 @@ pub fn run_growth() {
         .map(|settings| measure::row(settings, &strings[..strings::SEVENS], false))
         .collect();
     growth::print_above(&rows, 5.0);
+}
+
+/// Measures what a running value saves, and prints a table.
+pub fn run_windows() {
+    windows::run();
 }

@@ -1,18 +1,26 @@
 -- A window's number, read byte by byte with the remainder taken at each step: taking it early changes nothing modulo 65,521.
 use mathlib.Core.List.{List, [], _∷_}
-use mathlib.Core.Path.{_≡_, sym, ap, _∙_}
+use mathlib.Core.Path.{_≡_, refl, sym, ap, _∙_}
 use Prim.Native.Nat.{ℕ, suc, _+_, _*_, _-_, _/_, _%_, _≤_, _<_}
-use native.Mathlib.Nat.{mod-mod, mod-eq-of-lt, mul-add-mod-self-right}
+use native.Mathlib.Nat.{mul-add, mul-assoc, mod-mod, mod-eq-of-lt, mul-add-mod-self-right}
 use native.Mathlib.Numerals.{add-one}
 use native.Mathlib.Omega.{arith}
 use lib.ListN.{length, getD, take, drop}
 use lib.Seq.{drop-cons}
 use Rattle.partition.specs.Cuts.{numberFrom, windowAt, valueAt}
 
+-- Taking the remainder of a factor early changes nothing modulo 65,521.
+pub early-factor : (a b f : ℕ) {r : ℕ} → r ≡ f % 65521 → (a + b * r) % 65521 ≡ (a + b * f) % 65521
+early-factor a b f {r} e =
+    let q = f / 65521 in
+    let parts : f ≡ q * 65521 + r = omega arith in
+    let product : b * f ≡ b * (q * 65521) + b * r = ap (λ (y : ℕ). b * y) parts ∙ mul-add b (q * 65521) r in
+    let multiple : b * (q * 65521) ≡ b * q * 65521 = sym (mul-assoc b q 65521) in
+    let all : a + b * f ≡ b * q * 65521 + (a + b * r) = omega arith in
+    sym (ap (λ (y : ℕ). y % 65521) all ∙ mul-add-mod-self-right (b * q) 65521 (a + b * r))
+
 pub step : (x b : ℕ) → (x % 65521 * 257 + b) % 65521 ≡ (x * 257 + b) % 65521
-step x b =
-    let whole : x * 257 + b ≡ x / 65521 * 257 * 65521 + (x % 65521 * 257 + b) = omega arith in
-    sym (ap (λ (y : ℕ). y % 65521) whole ∙ mul-add-mod-self-right (x / 65521 * 257) 65521 (x % 65521 * 257 + b))
+step x b = omega (arith, early-factor b 257 x {r = x % 65521} refl)
 
 early : (x : ℕ) (bs : List ℕ) → numberFrom (x % 65521) bs % 65521 ≡ numberFrom x bs % 65521
 unfolding numberFrom

@@ -204,10 +204,10 @@ pub floor-after : (w h s : ℕ) (bytes : List ℕ) (p m step : ℕ) → candidat
 floor-after w h s bytes p m step c e l = record { before = λ j a b. omega (arith, candidate-is w h s bytes p c .low j (omega arith) (omega arith)) }
 
 -- A window of w bytes whose values are taken modulo s makes the same cuts.
-module _ (w s width leaving modulus : ℕ) (S : Sized w s width leaving modulus) (h : ℕ) (bytes : List ℕ) where
+module _ (w s width modulus : ℕ) (S : Sized w s width modulus) (h : ℕ) (bytes : List ℕ) where
   same-values : valueAt w modulus bytes ≡ valueAt w s bytes
   unfolding valueAt
-  same-values = fun-ext (λ i. S .same (windowAt w bytes i) (window-small w bytes i))
+  same-values = fun-ext (λ i. S .reduces .same (windowAt w bytes i) (window-small w bytes i))
 
   same-cuts : cutsOf width h modulus bytes ≡ cutsOf w h s bytes
   unfolding cutsOf candidate

@@ -2,14 +2,14 @@
 -- windows and a byte beside it.
 use mathlib.Core.List.{List, [], _∷_, _++_}
 use mathlib.Core.Path.{_≡_, refl, sym, ap, _∙_}
-use Prim.Native.Nat.{ℕ, suc, _+_, _*_, _-_, _/_, _%_, _^_, _≤_, _<_}
-use native.Mathlib.Nat.{add-zero, add-assoc, add-mul, mul-add, mul-assoc, mul-comm, mul-le-mul, pow-suc, mul-add-mod-self-right}
+use Prim.Native.Nat.{ℕ, suc, _+_, _*_, _%_, _^_, _≤_, _<_}
+use native.Mathlib.Nat.{add-zero, add-assoc, add-mul, mul-assoc, mul-comm, mul-le-mul, pow-suc, mul-add-mod-self-right}
 use native.Mathlib.Numerals.{add-one}
 use native.Mathlib.Omega.{arith}
 use lib.ListN.{length, getD, take, drop, length-take, length-drop}
 use lib.Seq.{drop-cons, take-suc, getD-drop}
 use Rattle.partition.specs.Cuts.{numberFrom, windowAt}
-use Rattle.partition.specs.Sliding.{slid}
+use Rattle.partition.specs.Sliding.{leavingOf, slid}
 use Rattle.partition.proofs.Reading.{step}
 
 low-digit : (x : ℕ) (bs : List ℕ) (b : ℕ) → numberFrom x (bs ++ (b ∷ [])) ≡ numberFrom x bs * 257 + b
@@ -36,23 +36,15 @@ high-digit x (b ∷ bs) =
     ∙ add-assoc (x * (power * 257)) (b * power) (numberFrom 0 bs)
     ∙ ap (λ (y : ℕ). x * (power * 257) + y) (sym (high-digit b bs) ∙ sym (first-digit b bs)))
 
--- Where `leaving` and e make a multiple of 65,521, so do their products with `old`.
-cancel : (n e leaving old new m : ℕ) → leaving + e % 65521 ≡ 65521 → n * 257 + new ≡ old * e + m → slid leaving (n % 65521) old new ≡ m % 65521
-unfolding slid
-cancel n e leaving old new m whole ends =
-    let q = e / 65521 + 1 in
-    let multiple : e + leaving ≡ q * 65521 = omega arith in
-    ap (λ (y : ℕ). y % 65521) (add-assoc (n % 65521 * 257) new (old * leaving))
-    ∙ step n (new + old * leaving)
-    ∙ ap (λ (y : ℕ). y % 65521)
-    (sym (add-assoc (n * 257) new (old * leaving))
-    ∙ ap (λ (y : ℕ). y + old * leaving) ends
-    ∙ regroup (old * e) m (old * leaving)
-    ∙ ap (λ (y : ℕ). y + m) (sym (mul-add old e leaving) ∙ ap (λ (y : ℕ). old * y) multiple ∙ sym (mul-assoc old q 65521)))
-    ∙ mul-add-mod-self-right (old * q) 65521 m
-  where
-    regroup : (x y z : ℕ) → x + y + z ≡ x + z + y
-    regroup x y z = omega arith
+-- What leaves counts e times and is added 65,520 times as often: with both it is a multiple of 65,521.
+cancel : (n e leaves enters m : ℕ) → n * 257 + enters ≡ leaves * e + m → (n % 65521 * 257 + enters + leaves * (65520 * e)) % 65521 ≡ m % 65521
+cancel n e leaves enters m ends =
+    let often : leaves * (65520 * e) ≡ leaves * e * 65520 = ap (λ (y : ℕ). leaves * y) (mul-comm 65520 e) ∙ sym (mul-assoc leaves e 65520) in
+    let all : n * 257 + (enters + leaves * (65520 * e)) ≡ leaves * e * 65521 + m = omega arith in
+    ap (λ (y : ℕ). y % 65521) (add-assoc (n % 65521 * 257) enters (leaves * (65520 * e)))
+    ∙ step n (enters + leaves * (65520 * e))
+    ∙ ap (λ (y : ℕ). y % 65521) all
+    ∙ mul-add-mod-self-right (leaves * e) 65521 m
 
 module _ (w : ℕ) (bytes : List ℕ) (i : ℕ) (inside : i + w < length bytes) where
   both-ends : numberFrom 0 (take w (drop i bytes)) * 257 + getD bytes (i + w) 0 ≡ getD bytes i 0 * 257 ^ w + numberFrom 0 (take w (drop (i + 1) bytes))
@@ -72,17 +64,17 @@ module _ (w : ℕ) (bytes : List ℕ) (i : ℕ) (inside : i + w < length bytes) 
           rw (← getD-drop i bytes w 0, ← take-suc (drop i bytes) w 0 k, drop-cons bytes i 0 l, add-one i)
 
   -- The window one byte further.
-  pub shifted : (leaving : ℕ) → leaving + 257 ^ w % 65521 ≡ 65521
-      → slid leaving (windowAt w bytes i) (getD bytes i 0) (getD bytes (i + w) 0) ≡ windowAt w bytes (i + 1)
-  unfolding windowAt
-  shifted leaving whole =
-      cancel (numberFrom 0 (take w (drop i bytes))) (257 ^ w) leaving (getD bytes i 0) (getD bytes (i + w) 0) (numberFrom 0 (take w (drop (i + 1) bytes)))
-      whole both-ends
+  pub shifted : slid w (windowAt w bytes i) (getD bytes i 0) (getD bytes (i + w) 0) ≡ windowAt w bytes (i + 1)
+  unfolding windowAt slid
+  shifted =
+      cancel (numberFrom 0 (take w (drop i bytes))) (257 ^ w) (getD bytes i 0) (getD bytes (i + w) 0) (numberFrom 0 (take w (drop (i + 1) bytes))) both-ends
 
--- 257^i modulo 65,521, and one factor more.
-pub power-on : (x i : ℕ) → x ≡ 257 ^ i % 65521 → x * 257 % 65521 ≡ 257 ^ (i + 1) % 65521
-power-on x i e = rw (e, add-one i, pow-suc 257 i) (rw (add-zero (257 ^ i % 65521 * 257), add-zero (257 ^ i * 257)) at (step (257 ^ i) 0))
+-- How often a byte is added that a window of one byte more leaves.
+pub leaving-on : (x w : ℕ) → x ≡ leavingOf w % 65521 → x * 257 % 65521 ≡ leavingOf (w + 1) % 65521
+leaving-on x w e =
+    rw (e, add-one w, pow-suc 257 w, ← mul-assoc 65520 (257 ^ w) 257)
+    (rw (add-zero (leavingOf w % 65521 * 257), add-zero (leavingOf w * 257)) at (step (leavingOf w) 0))
 
 -- What a byte adds as its window leaves it.
-pub product-small : (old leaving : ℕ) → old ≤ 255 → leaving ≤ 65521 → old * leaving ≤ 255 * 65521
-product-small old leaving a b = mul-le-mul a b
+pub product-small : (old often : ℕ) → old ≤ 255 → often ≤ 65520 → old * often ≤ 255 * 65520
+product-small old often a b = mul-le-mul a b

@@ -1,23 +1,30 @@
--- What a window that slides promises. No public contract cites these.
+-- A window that slides: document 02, request 4, and below its words what a window promises. No public contract cites these.
+use mathlib.Core.List.{List}
 use mathlib.Core.Path.{_≡_}
-use Prim.Native.Nat.{ℕ, _+_, _*_, _%_, _^_, _≤_, _<_}
+use Prim.Native.Nat.{ℕ, zero, suc, _+_, _*_, _%_, _^_, _≤_, _<_}
+use lib.ListN.{getD}
+use Rattle.partition.specs.Cuts.{windowAt}
 
--- The number x of a window that leaves the byte `old` and takes in the byte `new`.
-unfoldable pub slid : ℕ → ℕ → ℕ → ℕ → ℕ
-slid leaving x old new = (x * 257 + new + old * leaving) % 65521
+-- How often a byte is added that a window of w bytes leaves. One place further it would count 257^w times; modulo 65,521, adding something 65,520
+-- times takes it away once.
+abbrev pub leavingOf : ℕ → ℕ
+leavingOf w = 65520 * 257 ^ w
+
+-- "a step sees only w, the value before, the byte that leaves and the byte that enters"
+unfoldable pub slid : (w before leaves enters : ℕ) → ℕ
+slid w before leaves enters = (before * 257 + enters + leaves * leavingOf w) % 65521
+
+-- "keep the base-257 remainder as a running value": that of the first window, which starts at `from`, and then step by step.
+unfoldable pub running : (w : ℕ) → List ℕ → (from steps : ℕ) → ℕ
+running w bytes from zero = windowAt w bytes from
+running w bytes from (suc k) = slid w (running w bytes from k) (getD bytes (from + k) 0) (getD bytes (from + k + w) 0)
 
 -- m leaves the same remainders as s of all numbers below 65,521, and is not 0.
 pub record Modulus (s m : ℕ) : Type 0 where
   pub some : 1 ≤ m
   pub same : (x : ℕ) → x < 65521 → x % m ≡ x % s
 
--- With `leaving`, a byte that stands so many places above the lowest goes away modulo 65,521.
-pub record Slides (width leaving modulus : ℕ) : Type 0 where
-  pub cancels : leaving + 257 ^ width % 65521 ≡ 65521
-  pub some : 1 ≤ modulus
-
 -- A window of w bytes whose values are taken modulo s.
-pub record Sized (w s width leaving modulus : ℕ) : Type 0 where
+pub record Sized (w s width modulus : ℕ) : Type 0 where
   pub wide : width ≡ w
-  pub slides : Slides width leaving modulus
-  pub same : (x : ℕ) → x < 65521 → x % modulus ≡ x % s
+  pub reduces : Modulus s modulus

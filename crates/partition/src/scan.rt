@@ -4,7 +4,6 @@ ghost use Prim.Native.Nat.{_+_, _-_, _^_, _≤_, _<_, max};
 ghost use lib.ListN.{length};
 ghost use Rattle.partition.specs.Cuts.{valueAt};
 ghost use Rattle.partition.specs.Scans.{AfterLastBelow, FirstLow, Floor, NextCandidate};
-ghost use Rattle.partition.specs.Sliding.{Slides};
 use super::sliding;
 use super::sliding::Window;
 use super::window;
@@ -38,7 +37,7 @@ pub fn step(h: usize) -> usize
 
 // One past the last of the positions from `from` up to `to` with a value below m, or `from` if there is none.
 fn after_last_below(bytes: &[u8], window: Window, m: u32, from: usize, to: usize) -> usize
-    requires { ⌜ Slides (window .width) (window .leaving) (window .modulus) ⌝ }
+    requires { ⌜ 1 ≤ window .modulus ⌝ }
     requires { ⌜ to + window .width ≤ length (now bytes) ⌝ }
     ensures { λ r. ⌜ AfterLastBelow (valueAt (window .width) (window .modulus) (now (bytes .entry))) m from to r ⌝ }
 {
@@ -50,7 +49,7 @@ fn after_last_below(bytes: &[u8], window: Window, m: u32, from: usize, to: usize
     let mut j = from;
     while j < to {
         let value = x % window.modulus;
-        x = sliding::next(bytes, window, x, j);
+        x = sliding::next(bytes, window.width, x, j);
         j += 1;
         if value < m {
             r = j;
@@ -62,7 +61,7 @@ fn after_last_below(bytes: &[u8], window: Window, m: u32, from: usize, to: usize
 // The first position that no value from `from` on bars: its own is below all from `from` up to it and not above any of the h
 // after it. Where there is none before `end`, a position from `end` on. A smaller value bars the h positions before itself.
 fn first_low(bytes: &[u8], window: Window, h: usize, from: usize, end: usize) -> Place
-    requires { ⌜ Slides (window .width) (window .leaving) (window .modulus) ⌝ }
+    requires { ⌜ 1 ≤ window .modulus ⌝ }
     requires { ⌜ from < end ⌝ }
     requires { ⌜ end + window .width + h ≤ length (now bytes) + 1 ⌝ }
     ensures { λ r. ⌜ FirstLow (valueAt (window .width) (window .modulus) (now (bytes .entry))) h from end (r .at) (r .value) ⌝ }
@@ -76,7 +75,7 @@ fn first_low(bytes: &[u8], window: Window, h: usize, from: usize, end: usize) ->
         if value == 0 {
             return Place { at, value };
         }
-        x = sliding::next(bytes, window, x, j);
+        x = sliding::next(bytes, window.width, x, j);
         let next = x % window.modulus;
         j += 1;
         if next < value {
@@ -101,7 +100,7 @@ pub fn next_candidate(
     from: usize,
     end: usize,
 ) -> Place
-    requires { ⌜ Slides (window .width) (window .leaving) (window .modulus) ⌝ }
+    requires { ⌜ 1 ≤ window .modulus ⌝ }
     requires { ⌜ Floor (valueAt (window .width) (window .modulus) (now bytes)) h floor from ⌝ }
     requires { ⌜ h ≤ from ⌝ }
     requires { ⌜ from < end ⌝ }

@@ -5,6 +5,10 @@ use crate::settings::Rule;
 /// "After 31 cuts no more are made."
 pub const MOST_CUTS: usize = 31;
 
+/// "a base-257 number", "modulo 65,521": both signed, since a step of the window takes away.
+const BASE: i128 = 257;
+const PRIME: i128 = 65_521;
+
 /// A part of a string: where it starts, and how many bytes it has.
 #[derive(Clone, Copy, Debug, PartialEq, Eq)]
 pub struct Block {
@@ -37,6 +41,33 @@ pub fn window_values(string: &[u8], rule: &Rule) -> Vec<u64> {
         i += 1;
     }
     values
+}
+
+/// The base-257 remainder one place further on: "a step sees only w, the value before, the byte that
+/// leaves and the byte that enters" (document 02, request 4).
+///
+/// With one digit more, each digit counts 257 times as much as before. The byte that leaves has come
+/// to count 257^w, and that is taken away. A window of 12 bytes stays far within 128 bits.
+pub fn slide(window: usize, before: u64, leaves: u8, enters: u8) -> u64 {
+    let leaving = i128::from(leaves) * BASE.pow(window as u32);
+    let number = i128::from(before) * BASE + i128::from(enters) - leaving;
+    number.rem_euclid(PRIME) as u64
+}
+
+/// The base-257 remainders of all windows, "for 0 ≤ i ≤ n−w", kept "as a running value" (document
+/// 02, request 4): the first window is read, and each later one comes from the one before it. None
+/// where the string is shorter than a window.
+pub fn running_remainders(string: &[u8], window: usize) -> Vec<u64> {
+    if string.len() < window {
+        return Vec::new();
+    }
+    let mut value = window_remainder(string, 0, window);
+    let mut remainders = vec![value];
+    for i in 0..string.len() - window {
+        value = slide(window, value, string[i], string[i + window]);
+        remainders.push(value);
+    }
+    remainders
 }
 
 /// The positions that a candidate may have: "when h ≤ i ≤ n−w−h", in signed numbers, so that a

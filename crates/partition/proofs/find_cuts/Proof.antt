@@ -34,12 +34,12 @@ loop-holds c = (going-first _ _ _ _ _ refl refl, record { before = λ j a b. ome
 
 next-candidate-requires : tie.Need-next-candidate-requires Inv-loop μ-loop
 next-candidate-requires c κs =
-    (c .before .before .before .window-of .ensures .slides, (c .before .loop .inv .1, omega arith))
+    (c .before .before .before .window-of .ensures .reduces .some, (c .before .loop .inv .1, omega arith))
 
 returns-2 : tie.Need-returns-2 Inv-loop μ-loop
 returns-2 c =
     let past = going-past _ _ _ _ _ _ _ _ _ (c .before .before .before .loop .inv .0) (c .before .next-candidate .ensures .first) (c .if2 .taken) in
-    found-same _ _ _ _ _ (c .before .before .before .before .before .window-of .ensures) _ _ (found-all _ _ _ _ _ _ _ past (omega arith))
+    found-same _ _ _ _ (c .before .before .before .before .before .window-of .ensures) _ _ (found-all _ _ _ _ _ _ _ past (omega arith))
 
 mul-at : tie.Need-mul-at Inv-loop μ-loop
 mul-at c = search needs
@@ -52,7 +52,7 @@ add-n c = search needs
 
 returns-3 : tie.Need-returns-3 Inv-loop μ-loop
 returns-3 c =
-    found-same _ _ _ _ _ (c .before .before .before .before .before .before .window-of .ensures) _ _
+    found-same _ _ _ _ (c .before .before .before .before .before .before .window-of .ensures) _ _
     (found-full _ _ _ _ _ _ _ _ _ (c .before .before .before .before .loop .inv .0)
     (c .before .before .next-candidate .ensures .first)
     _
@@ -76,7 +76,7 @@ loop-again c =
 
 returns-4 : tie.Need-returns-4 Inv-loop μ-loop
 returns-4 c =
-    found-same _ _ _ _ _ (c .before .before .before .window-of .ensures) _ _ (found-all _ _ _ _ _ _ _ (c .before .loop .inv .0) (omega arith))
+    found-same _ _ _ _ (c .before .before .before .window-of .ensures) _ _ (found-all _ _ _ _ _ _ _ (c .before .loop .inv .0) (omega arith))
 
 pub find-cuts-spec : {M : Type 1} → statement M
 find-cuts-spec =

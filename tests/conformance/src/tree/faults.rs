@@ -1,9 +1,11 @@
-//! The comparison tested: one function that is right, and many that are wrong in one place each.
-//! Every wrong one must be found, and the right one must pass an eighth of the cases.
+//! The comparison tested: one function that is right, one whose windows slide and which is right too, and
+//! many that are wrong in one place each. Every wrong one must be found, and the right ones must pass an
+//! eighth of the cases.
 
 use super::cases::count;
 use super::compare::Tree;
 use super::report::run;
+use super::sliding::*;
 use crate::lent::{part, part_mut};
 use reference::fnv::{block_id, fnv1a};
 
@@ -97,6 +99,26 @@ impl Cutting<'_> {
         (number % 65_521) as u64 % s
     }
 
+    /// The values of a block's windows at every place, of bytes as far as they go; of windows that slide, those
+    /// that end within the block.
+    fn values(&self, start: usize, length: usize, s: u64) -> Vec<u64> {
+        if self.fault >= SLIDING {
+            let windows = Windows {
+                fault: self.fault,
+                string: self.string,
+                w: self.w,
+                s,
+            };
+            return windows.values(start, length);
+        }
+        let bytes = if self.has(WINDOWS_PAST_THE_CHILD) {
+            &self.string[start..]
+        } else {
+            &self.string[start..start + length]
+        };
+        (0..length).map(|i| self.value(bytes, i, s)).collect()
+    }
+
     /// Whether the value at i is least, as far as there are values. Since the last cut the next may come from `start` on.
     fn is_candidate(&self, values: &[u64], i: usize, h: usize, start: usize) -> bool {
         let near = if self.has(NEARER_NEIGHBOURS) {
@@ -131,12 +153,7 @@ impl Cutting<'_> {
         if self.has(NEXT_LEVELS_MODULUS) {
             s /= self.p;
         }
-        let bytes = if self.has(WINDOWS_PAST_THE_CHILD) {
-            &self.string[start..]
-        } else {
-            &self.string[start..start + length]
-        };
-        let values: Vec<u64> = (0..length).map(|i| self.value(bytes, i, s)).collect();
+        let values = self.values(start, length, s);
         let open = self.has(WINDOW_ENDS_EARLY) || self.has(WINDOWS_PAST_THE_CHILD);
         let barred = if open { 0 } else { self.w - 1 };
         let values = &values[..length.saturating_sub(barred)];
@@ -367,6 +384,14 @@ fn the_right_function_passes() {
 }
 
 #[test]
+fn the_right_function_passes_with_windows_that_slide() {
+    match run(SEED, count() / 8, faulty::<SLIDING>) {
+        Ok(report) => report.assert_complete(),
+        Err(failure) => panic!("{failure}"),
+    }
+}
+
+#[test]
 fn every_fault_is_found() {
     let functions = functions! {
         SMALLER_THAN_BEFORE SMALLER_THAN_AFTER NEARER_NEIGHBOURS WINDOW_ENDS_EARLY ONE_CUT_MORE
@@ -378,7 +403,10 @@ fn every_fault_is_found() {
         WINDOW_12_REFUSED LEAST_NOMINAL_REFUSED MOST_NOMINAL_REFUSED STRING_BEFORE_SETTINGS
         TABLE_BEFORE_STRING FULL_STRETCHES_ONLY ONE_IS_LEAST NOTHING_BEFORE_THE_START PARENT_FROM_1
         PARENT_LISTED_BEFORE PARENT_IN_ITS_LEVEL PLACE_FROM_1 PLACE_FROM_THE_RIGHT
-        PLACE_WITHOUT_ITS_HIGHEST_BIT PARENT_AND_PLACE_LEFT_OUT
+        PLACE_WITHOUT_ITS_HIGHEST_BIT PARENT_AND_PLACE_LEFT_OUT LEAVES_ONE_POWER_LOWER NOTHING_LEAVES
+        MODULO_S_RUNS_ON ENTERS_TOO_EARLY GOES_ON_FROM_THE_BLOCK_BEFORE TOO_MUCH_LEAVES_2
+        TOO_MUCH_LEAVES_3 TOO_MUCH_LEAVES_4 TOO_MUCH_LEAVES_5 TOO_MUCH_LEAVES_6 TOO_MUCH_LEAVES_7
+        TOO_MUCH_LEAVES_8 TOO_MUCH_LEAVES_9 TOO_MUCH_LEAVES_10 TOO_MUCH_LEAVES_11 TOO_MUCH_LEAVES_12
     };
     for (name, function) in functions {
         match run(SEED, count(), function) {

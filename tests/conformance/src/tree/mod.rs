@@ -6,6 +6,8 @@ mod report;
 
 #[cfg(test)]
 mod faults;
+#[cfg(test)]
+mod sliding;
 
 pub use cases::count;
 pub use compare::Tree;

@@ -1,18 +1,18 @@
--- `after_last_below` meets its contract. The invariant is its own record for the positions passed, and x is the number of the window at j.
+-- `after_last_below` meets its contract. The invariant is its own record for the positions passed, and x is the running value at j.
 use borrow.Author.Needs.{needs}
 use mathlib.Core.Path.{_≡_}
 use Prim.Native.Nat.{_-_, _≤_}
 use native.Mathlib.Omega.{arith}
-use Rattle.partition.specs.Cuts.{windowAt, valueAt}
+use Rattle.partition.specs.Cuts.{valueAt}
 use Rattle.partition.specs.Scans.{AfterLastBelow}
-use Rattle.partition.proofs.Reading.{value-of, window-here}
+use Rattle.partition.proofs.Running.{Runs, runs-first, runs-small, runs-on, runs-value}
 use Rattle.partition.proofs.Steps.{last-none, last-here, last-not}
 use Rattle.partition.proofs.scan.after_last_below.Statement.{statement}
 use Rattle.partition.proofs.scan.after_last_below.Tie as tie
 
 abbrev Inv-loop : tie.InvT-loop
 Inv-loop bytes window m from to x₀ r₀ j₀ x r j =
-    AfterLastBelow (valueAt (window .width) (window .modulus) bytes) m from j r × (from ≤ j) × (j ≤ to) × (x ≡ windowAt (window .width) bytes j)
+    AfterLastBelow (valueAt (window .width) (window .modulus) bytes) m from j r × (j ≤ to) × Runs (window .width) bytes from j x
 
 abbrev μ-loop : tie.MeasureT-loop
 μ-loop bytes window m from to x₀ r₀ j₀ x r j = to - j
@@ -27,13 +27,13 @@ number-requires : tie.Need-number-requires Inv-loop μ-loop
 number-requires c κs = search needs
 
 loop-holds : tie.Need-loop-holds Inv-loop μ-loop
-loop-holds c = (last-none _ _ _ (omega arith), omega arith, omega arith, window-here _ _ _ (c .number .ensures))
+loop-holds c = (last-none _ _ _ (omega arith), omega arith, runs-first (c .number .ensures))
 
 rem-value : tie.Need-rem-value Inv-loop μ-loop
 rem-value c = search needs
 
 next-requires : tie.Need-next-requires Inv-loop μ-loop
-next-requires c κs = search needs
+next-requires c κs = (omega arith, runs-small (c .before .before .loop .inv .2))
 
 add-j : tie.Need-add-j Inv-loop μ-loop
 add-j c = search needs
@@ -45,7 +45,8 @@ loop-again : tie.Need-loop-again Inv-loop μ-loop
 loop-again c =
     let s = c .before .before .before .before .loop in
     let a = c .before .before .before .before .before .before .before .before .before .args in
-    (last-here _ _ _ (s .inv .0) (s .inv .1) (omega (arith, value-of _ (a .window .modulus) _ _ (s .inv .3))), omega arith, omega arith, c .before .next .ensures)
+    let e = runs-value (s .inv .2) (a .window .modulus) (omega arith) in
+    (last-here _ _ _ (s .inv .0) (s .inv .2 .started) (omega (arith, e)), omega arith, runs-on (s .inv .2) (c .before .next .ensures))
 
 loop-less-2 : tie.Need-loop-less-2 Inv-loop μ-loop
 loop-less-2 c = search needs
@@ -54,7 +55,8 @@ loop-again-2 : tie.Need-loop-again-2 Inv-loop μ-loop
 loop-again-2 c =
     let s = c .before .before .before .before .loop in
     let a = c .before .before .before .before .before .before .before .before .before .args in
-    (last-not _ _ _ (s .inv .0) (omega (arith, value-of _ (a .window .modulus) _ _ (s .inv .3))), omega arith, omega arith, c .before .next .ensures)
+    let e = runs-value (s .inv .2) (a .window .modulus) (omega arith) in
+    (last-not _ _ _ (s .inv .0) (omega (arith, e)), omega arith, runs-on (s .inv .2) (c .before .next .ensures))
 
 returns-2 : tie.Need-returns-2 Inv-loop μ-loop
 returns-2 c =

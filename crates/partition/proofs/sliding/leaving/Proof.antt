@@ -1,42 +1,54 @@
--- `leaving` meets its contract. The invariant: x is 257^i modulo 65,521.
+-- `leaving` meets its contract: each number is worked out by the checker.
 use borrow.Author.Needs.{needs}
-use mathlib.Core.Path.{_≡_}
-use Prim.Native.Nat.{_-_, _%_, _^_, _≤_}
-use native.Mathlib.Omega.{arith}
-use Rattle.partition.proofs.Shifted.{power-on}
+use mathlib.Core.Path.{_≡_, refl}
+use Prim.Native.Nat.{ℕ, _%_}
+use Rattle.partition.specs.Sliding.{leavingOf}
 use Rattle.partition.proofs.sliding.leaving.Statement.{statement}
 use Rattle.partition.proofs.sliding.leaving.Tie as tie
 
-abbrev Inv-loop : tie.InvT-loop
-Inv-loop w x₀ i₀ x i = (i ≤ w) × (x ≡ 257 ^ i % 65521)
+arm : (w k x : ℕ) → w ≡ k → x ≡ leavingOf k % 65521 → x ≡ leavingOf w % 65521
+arm w k x e h = rw e h
 
-abbrev μ-loop : tie.MeasureT-loop
-μ-loop w x₀ i₀ x i = w - i
+leaving-of-any-requires : tie.Need-leaving-of-any-requires
+leaving-of-any-requires c κs = search needs
 
-loop-holds : tie.Need-loop-holds Inv-loop μ-loop
-loop-holds c = search needs
+returns : tie.Need-returns
+returns c = arm _ 2 _ (search needs) refl
 
-mul-x : tie.Need-mul-x Inv-loop μ-loop
-mul-x c = search needs
+returns-2 : tie.Need-returns-2
+returns-2 c = arm _ 3 _ (search needs) refl
 
-add-i : tie.Need-add-i Inv-loop μ-loop
-add-i c = search needs
+returns-3 : tie.Need-returns-3
+returns-3 c = arm _ 4 _ (search needs) refl
 
-loop-less : tie.Need-loop-less Inv-loop μ-loop
-loop-less c = search needs
+returns-4 : tie.Need-returns-4
+returns-4 c = arm _ 5 _ (search needs) refl
 
-loop-again : tie.Need-loop-again Inv-loop μ-loop
-loop-again c = (omega arith, power-on _ _ (c .before .loop .inv .1))
+returns-5 : tie.Need-returns-5
+returns-5 c = arm _ 6 _ (search needs) refl
 
-sub-result : tie.Need-sub-result Inv-loop μ-loop
-sub-result c = search needs
+returns-6 : tie.Need-returns-6
+returns-6 c = arm _ 7 _ (search needs) refl
 
-returns : tie.Need-returns Inv-loop μ-loop
-returns c =
-    let e : c .before .loop .i ≡ c .before .before .args .w = omega arith in
-    rw (← e) (omega arith)
+returns-7 : tie.Need-returns-7
+returns-7 c = arm _ 8 _ (search needs) refl
+
+returns-8 : tie.Need-returns-8
+returns-8 c = arm _ 9 _ (search needs) refl
+
+returns-9 : tie.Need-returns-9
+returns-9 c = arm _ 10 _ (search needs) refl
+
+returns-10 : tie.Need-returns-10
+returns-10 c = arm _ 11 _ (search needs) refl
+
+returns-11 : tie.Need-returns-11
+returns-11 c = arm _ 12 _ (search needs) refl
+
+returns-12 : tie.Need-returns-12
+returns-12 c = search needs
 
 pub leaving-spec : {M : Type 1} → statement M
 leaving-spec =
     tie.close
-    (tie.spec Inv-loop μ-loop loop-holds mul-x add-i loop-less loop-again sub-result returns)
+    (tie.spec leaving-of-any-requires returns returns-2 returns-3 returns-4 returns-5 returns-6 returns-7 returns-8 returns-9 returns-10 returns-11 returns-12)

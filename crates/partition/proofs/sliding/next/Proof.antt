@@ -1,8 +1,5 @@
--- `next` meets its contract: the law of a window one byte further.
+-- `next` meets its contract: the two bytes are the step's.
 use borrow.Author.Needs.{needs}
-use native.Mathlib.Omega.{arith}
-use Rattle.partition.proofs.Reading.{window-small}
-use Rattle.partition.proofs.Shifted.{shifted}
 use Rattle.partition.proofs.sliding.next.Statement.{statement}
 use Rattle.partition.proofs.sliding.next.Tie as tie
 
@@ -16,14 +13,10 @@ shared-slice-read-slide-2 : tie.Need-shared-slice-read-slide-2
 shared-slice-read-slide-2 c = search needs
 
 slide-requires : tie.Need-slide-requires
-slide-requires c κs =
-    let a = c .before .before .before .before .args in
-    omega (arith, window-small (a .window .width) (a .bytes .now) (a .j))
+slide-requires c κs = search needs
 
 returns : tie.Need-returns
-returns c =
-    let a = c .before .before .before .before .before .args in
-    cc (shifted (a .window .width) (a .bytes .now) (a .j) (omega arith) (a .window .leaving) (omega arith))
+returns c = search needs
 
 pub next-spec : {M : Type 1} → statement M
 next-spec =

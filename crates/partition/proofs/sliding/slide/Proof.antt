@@ -1,10 +1,15 @@
--- `slide` meets its contract: the two products are below 2^25.
+-- `slide` meets its contract: the two products are below 2^25, and the factor is the definition's.
 use borrow.Author.Needs.{needs}
+use Prim.Native.Nat.{_+_, _*_}
 use native.Mathlib.Omega.{arith}
-use Rattle.partition.specs.Sliding.{slid}
+use Rattle.partition.specs.Sliding.{leavingOf, slid}
+use Rattle.partition.proofs.Reading.{early-factor}
 use Rattle.partition.proofs.Shifted.{product-small}
 use Rattle.partition.proofs.sliding.slide.Statement.{statement}
 use Rattle.partition.proofs.sliding.slide.Tie as tie
+
+leaving-requires : tie.Need-leaving-requires
+leaving-requires c κs = search needs
 
 mul-result : tie.Need-mul-result
 mul-result c = search needs
@@ -13,14 +18,16 @@ add-result : tie.Need-add-result
 add-result c = search needs
 
 mul-result-2 : tie.Need-mul-result-2
-mul-result-2 c = omega (arith, product-small (c .args .old) (c .args .leaving) (omega arith) (omega arith))
+mul-result-2 c = omega (arith, product-small (c .before .args .old) (c .leaving .result) (omega arith) (omega arith))
 
 add-result-2 : tie.Need-add-result-2
-add-result-2 c = omega (arith, product-small (c .args .old) (c .args .leaving) (omega arith) (omega arith))
+add-result-2 c = omega (arith, product-small (c .before .args .old) (c .leaving .result) (omega arith) (omega arith))
 
 returns : tie.Need-returns
 unfolding slid
-returns c = search needs
+returns c =
+    let a = c .before .args in
+    omega (arith, early-factor (a .x * 257 + a .new) (a .old) (leavingOf (a .w)) (c .leaving .ensures))
 
 pub slide-spec : {M : Type 1} → statement M
-slide-spec = tie.close (tie.spec mul-result add-result mul-result-2 add-result-2 returns)
+slide-spec = tie.close (tie.spec leaving-requires mul-result add-result mul-result-2 add-result-2 returns)

@@ -1,0 +1,120 @@
+//! What a running value saves: all windows of 64 KiB, each read afresh, each value from the one before, and as the library's search goes
+//! over them.
+
+use crate::cut::cut;
+use crate::pass::call_and_pass;
+use reference::partition::window_values;
+use reference::rcds::ACCEPTED;
+use reference::settings::Settings;
+use std::hint::black_box;
+
+const LENGTH: usize = 65_536;
+
+/// One level of blocks, h half of M.
+fn settings(window: usize, nominal: usize) -> Settings {
+    Settings {
+        window: window as u64,
+        fan_out: 2,
+        levels: 1,
+        nominal: nominal as u64,
+    }
+}
+
+/// A window's bytes as a base-257 number modulo 65,521.
+fn remainder(window: &[u8]) -> u32 {
+    let digit = |number: u32, &byte: &u8| (number * 257 + u32::from(byte)) % 65_521;
+    window.iter().fold(0, digit)
+}
+
+/// The least value of all windows, each window read afresh.
+fn afresh(bytes: &[u8], window: usize, modulus: u32) -> u32 {
+    let values = bytes
+        .windows(window)
+        .map(|bytes| remainder(bytes) % modulus);
+    values.min().expect("a window fits")
+}
+
+/// The least value of all windows, from a running value.
+fn running(bytes: &[u8], window: usize, modulus: u32) -> u32 {
+    let place = (0..window).fold(1, |place, _| place * 257 % 65_521);
+    let mut number = remainder(&bytes[..window]);
+    let mut least = number % modulus;
+    for (&leaves, &enters) in bytes.iter().zip(&bytes[window..]) {
+        number = (number * 257 + u32::from(enters) + u32::from(leaves) * (65_521 - place)) % 65_521;
+        least = least.min(number % modulus);
+    }
+    least
+}
+
+/// The passes that the work takes over the bytes.
+fn passes(bytes: &[u8], work: impl FnMut()) -> f64 {
+    let (call, pass) = call_and_pass(1, bytes, work);
+    call / pass
+}
+
+/// Equal bytes whose windows have a value other than 0, so that the search passes over none of them.
+fn string(settings: &Settings) -> Vec<u8> {
+    let rule = settings.rule(1);
+    let looked_at = |byte: &u8| window_values(&vec![*byte; rule.window], &rule) != [0];
+    let byte = (1..=255).find(looked_at).expect("such a byte");
+    vec![byte; LENGTH]
+}
+
+/// The passes of a cutting's search. With M = n − w, and h half of it, a cut may lie at one position, whose neighbours are all other
+/// windows: each is looked at once. With M = n it may lie nowhere, and the string is only hashed.
+fn search(window: usize, bytes: &[u8]) -> f64 {
+    let cutting = |nominal: usize| {
+        let settings = settings(window, nominal);
+        let mut nodes = vec![0; 65_536];
+        let mut answer = 0;
+        let time = passes(bytes, || {
+            answer = black_box(cut(&settings, black_box(bytes), &mut nodes));
+        });
+        (answer, time)
+    };
+    let (searched, hashed) = (cutting(LENGTH - window), cutting(LENGTH));
+    assert_eq!([searched.0, hashed.0], [ACCEPTED + 3, ACCEPTED + 2]);
+    searched.1 - hashed.1
+}
+
+/// Measures windows of one width, and prints a row of the table.
+fn print_row(window: usize) {
+    let settings = settings(window, LENGTH - window);
+    let rule = settings.rule(1);
+    let bytes = string(&settings);
+    let modulus = rule.modulus as u32;
+    let least = window_values(&bytes, &rule).into_iter().min();
+    let time = |work: fn(&[u8], usize, u32) -> u32| {
+        let value = work(&bytes, window, modulus);
+        assert_eq!(Some(u64::from(value)), least);
+        passes(&bytes, || {
+            black_box(work(
+                black_box(&bytes),
+                black_box(window),
+                black_box(modulus),
+            ));
+        })
+    };
+    let (afresh, running) = (time(afresh), time(running));
+    let search = search(window, &bytes);
+    println!(
+        "| {window} | {afresh:.2} | {running:.2} | {:.1} | {search:.2} | {:.1} |",
+        afresh / running,
+        afresh / search
+    );
+}
+
+/// Measures and prints.
+pub fn run() {
+    println!();
+    println!("All windows of 64 KiB, in FNV-1a passes over the same bytes: by loops of this program the least value, each window read");
+    println!("afresh and by a running value; and in `rcds_tree` the search for a cut that looks at each window once, hashing taken off.");
+    println!();
+    println!(
+        "| w | afresh | running | afresh / running | `rcds_tree`'s search | afresh / search |"
+    );
+    println!("|---:|---:|---:|---:|---:|---:|");
+    for window in [2, 4, 8, 12] {
+        print_row(window);
+    }
+}

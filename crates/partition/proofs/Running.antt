@@ -1,0 +1,59 @@
+-- "Show that each value equals document 01's": the running value at every position, and as the scans keep it.
+use mathlib.Core.List.{List}
+use mathlib.Core.Path.{_≡_, sym, ap, _∙_}
+use Prim.Native.Nat.{ℕ, zero, suc, _+_, _-_, _%_, _≤_, _<_}
+use native.Mathlib.Nat.{add-zero}
+use native.Mathlib.Omega.{arith}
+use lib.ListN.{length, getD}
+use Rattle.partition.specs.Cuts.{windowAt, valueAt}
+use Rattle.partition.specs.Sliding.{slid, running}
+use Rattle.partition.proofs.Reading.{window-small, window-here, value-of}
+use Rattle.partition.proofs.Shifted.{shifted}
+
+-- The remainder, after any number of steps from wherever the first window starts.
+pub running-is : (w : ℕ) (bytes : List ℕ) (from steps : ℕ) → from + steps + w ≤ length bytes → running w bytes from steps ≡ windowAt w bytes (from + steps)
+unfolding running
+running-is w bytes from zero l = sym (ap (windowAt w bytes) (add-zero from))
+running-is w bytes from (suc k) l =
+    ap (λ (x : ℕ). slid w x (getD bytes (from + k) 0) (getD bytes (from + k + w) 0)) (running-is w bytes from k (omega arith))
+    ∙ shifted w bytes (from + k) (omega arith)
+    ∙ ap (windowAt w bytes) (let e : from + k + 1 ≡ from + suc k = omega arith in e)
+
+-- The value: "then modulo s".
+pub running-value : (w s : ℕ) (bytes : List ℕ) (from steps : ℕ) → from + steps + w ≤ length bytes
+    → running w bytes from steps % s ≡ valueAt w s bytes (from + steps)
+running-value w s bytes from steps l = value-of w s bytes (from + steps) (running-is w bytes from steps l)
+
+running-small : (w : ℕ) (bytes : List ℕ) (from steps : ℕ) → running w bytes from steps < 65521
+unfolding running slid
+running-small w bytes from zero = window-small w bytes from
+running-small w bytes from (suc k) = omega arith
+
+-- x is the running value of a scan that started at `from` and stands at j.
+pub record Runs (w : ℕ) (bytes : List ℕ) (from j x : ℕ) : Type 0 where
+  pub started : from ≤ j
+  pub value : x ≡ running w bytes from (j - from)
+
+module _ {w : ℕ} {bytes : List ℕ} {from : ℕ} where
+  pub runs-first : {x : ℕ} → x ≡ windowAt (from + w - from) bytes from → Runs w bytes from from x
+  unfolding running
+  runs-first e =
+      let z : from - from ≡ 0 = omega arith in
+      record { started = omega arith; value = rw z (window-here w bytes from e) }
+
+  module _ {j x : ℕ} (R : Runs w bytes from j x) where
+    here : from + (j - from) ≡ j
+    here = omega arith
+
+    pub runs-small : x < 65521
+    runs-small = rw (R .value) (running-small w bytes from (j - from))
+
+    pub runs-on : {y : ℕ} → y ≡ slid w x (getD bytes j 0) (getD bytes (j + w) 0) → Runs w bytes from (j + 1) y
+    unfolding running
+    runs-on e =
+        let more : j + 1 - from ≡ suc (j - from) = omega arith in
+        record { started = omega arith; value = rw (more, here, ← R .value) e }
+
+    pub runs-value : (s : ℕ) → j + w ≤ length bytes → x % s ≡ valueAt w s bytes j
+    runs-value s l =
+        ap (λ (y : ℕ). y % s) (R .value) ∙ running-value w s bytes from (j - from) (omega (arith, here)) ∙ ap (valueAt w s bytes) here
