@@ -5,8 +5,8 @@
  * A string is cut into blocks where its own bytes say so, each block is cut
  * again, level by level, and the blocks form a tree. Equal stretches of two
  * strings are cut into equal blocks, which have equal ids. The order of a
- * node's children travels as the multiset of their pairs and one number, in
- * messages that are rows of 32-bit words.
+ * node's children travels as the multiset of their pairs and, where these have
+ * several orders, one number, in messages that are rows of 32-bit words.
  *
  * What holds for every call:
  *
@@ -57,7 +57,8 @@
  *  17  composition: node's level below levels, references in the shingle list at
  *      the next level, counts within the list's, their sum 1 to
  *      RCDS_MAX_CHILDREN, number at most RCDS_MAX_TRAIL_NUMBER, a trail of that
- *      number, and pending nodes then at most RCDS_MAX_PENDING?
+ *      number, the number carried if there are other trails and omitted if there
+ *      are none, and pending nodes then at most RCDS_MAX_PENDING?
  *      order: whole ids, 1 to RCDS_MAX_CHILDREN of them, none of them 0?
  *      multiset: whole entries, at most RCDS_MAX_CHILDREN of them, counts that
  *      add up to 1 to RCDS_MAX_CHILDREN, number at most RCDS_MAX_TRAIL_NUMBER,
@@ -157,6 +158,12 @@ extern "C" {
 
 /* The count of an accepted answer r. Of a refusal, the question's number. */
 #define RCDS_COUNT(r) ((uint64_t)(r) & UINT64_C(0xffffffff))
+
+/*
+ * 1 if an answer r about a trail says that there is no other over its pairs:
+ * bit 33. Else, and of a refusal, 0.
+ */
+#define RCDS_ONLY_TRAIL(r) ((uint64_t)(r) >> 33 & 1)
 
 /*
  * rcds_question_words - the words of an answer, for logs.
@@ -365,7 +372,7 @@ static inline uint64_t rcds_crossed_parent(const uint8_t *crossed, size_t k)
  * over a multiset of pairs is an order whose pairs are exactly these. Trails
  * are sorted by ids, first id first, unsigned; the number of a trail is how
  * many come before it. So the pairs, in any order, and the number give the
- * order again.
+ * order again. Most multisets have one trail, and then the pairs alone do.
  *
  * Ids and counts are rows of 64 bits, most significant byte first.
  */
@@ -380,7 +387,8 @@ static inline uint64_t rcds_crossed_parent(const uint8_t *crossed, size_t k)
  *
  * Accepted: RCDS_COUNT of the answer is the order's number among the trails
  * over its own pairs, or 4,096 for every number above RCDS_MAX_TRAIL_NUMBER.
- * Such an order cannot be sent by its number.
+ * Such an order cannot be sent by its number. RCDS_ONLY_TRAIL of the answer is 1
+ * if no other order has these pairs, which is then number 0; else it is 0.
  */
 uint64_t rcds_trail_number(const uint8_t *ids, size_t ids_len);
 
@@ -400,7 +408,8 @@ uint64_t rcds_trail_number(const uint8_t *ids, size_t ids_len);
  *
  * Accepted: RCDS_COUNT of the answer is how many ids there are, the sum of the
  * counts, 1 to RCDS_MAX_CHILDREN. They stand at the start of ids, in their
- * order. The bytes after them are unchanged.
+ * order. The bytes after them are unchanged. RCDS_ONLY_TRAIL of the answer is 1
+ * if there is no other trail over these pairs, else 0.
  *
  * Refused: ids is unchanged.
  *
@@ -482,9 +491,10 @@ uint64_t rcds_sender_setup(uint64_t w, uint64_t p, uint64_t levels,
  * the id of the whole string, and the sketch's cells. To a node query it is a
  * composition (the children of the first node with that level and id, as
  * references to the shingle list, rising by index, and the number of their
- * order), a literal (the node's bytes: at the last level, or where that number is
- * above RCDS_MAX_TRAIL_NUMBER), or a none (there is no such node). The session is
- * the message's. To the same node query every sender that was set up over the
+ * order, which is omitted where no other order has their pairs), a literal (the
+ * node's bytes: at the last level, or where that number is above
+ * RCDS_MAX_TRAIL_NUMBER), or a none (there is no such node). The session is the
+ * message's. To the same node query every sender that was set up over the
  * same string with the same settings replies the same bytes.
  *
  * Asks 1 to 7, 10, 11, 20, in this order.

@@ -80,6 +80,21 @@ static void expect_strata(void)
     expect("last of stratum 15", rcds_cell_value(strata, 12 * 15 + 11, 4), 6);
 }
 
+/* Answers about a trail: 2^32 and a small number, and bit 33 where it is the
+ * only one. */
+static void expect_trails(void)
+{
+    uint64_t only = (UINT64_C(3) << 32) + 5, other = (UINT64_C(1) << 32) + 4096;
+
+    expect("the only trail", RCDS_ONLY_TRAIL(only), 1);
+    expect("its count", RCDS_COUNT(only), 5);
+    expect("it is accepted", RCDS_ACCEPTED(only), 1);
+    expect("another trail", RCDS_ONLY_TRAIL(other), 0);
+    expect("its number", RCDS_COUNT(other), 4096);
+    expect("a refusal", RCDS_ONLY_TRAIL(17), 0);
+    expect_words(only, "accepted");
+}
+
 int main(void)
 {
     char begin[8];
@@ -88,6 +103,7 @@ int main(void)
     expect_nodes();
     expect_crossed();
     expect_strata();
+    expect_trails();
     for (question = 1; question <= 22; question++) {
         snprintf(begin, sizeof begin, "%" PRIu64 ": ", question);
         expect_words(question, begin);

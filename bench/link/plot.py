@@ -14,11 +14,11 @@ GRAY = "#888888"
 
 
 def rows(lines):
-    """The rows of the table whose head begins with KiB and content."""
+    """The rows of the table whose head begins with KiB, content and change."""
     head = None
     for line in lines:
         cells = [cell.strip() for cell in line.strip().strip("|").split("|")]
-        if cells[:2] == ["KiB", "content"]:
+        if cells[:3] == ["KiB", "content", "change"]:
             head = cells
         elif head and line.startswith("|") and not line.startswith("|--"):
             yield dict(zip(head, cells))

@@ -4,7 +4,7 @@ use super::multisets::{trails, Asked};
 use crate::clock::seconds;
 use crate::pass::{cost, Cost};
 use calls::{rcds_trail_number, rcds_trail_order};
-use reference::rcds::ACCEPTED;
+use reference::rcds::{count, ACCEPTED};
 use reference::trail::{pairs, MOST_NUMBER};
 use std::hint::black_box;
 
@@ -37,7 +37,9 @@ fn order(pairs: &[u8], number: u64) -> (u64, Vec<u8>) {
         answer == expected_answer && ids == expected,
         "a wrong order"
     );
-    ids.truncate(8 * answer.saturating_sub(ACCEPTED) as usize);
+    if answer >= ACCEPTED {
+        ids.truncate(8 * count(answer) as usize);
+    }
     (answer, ids)
 }
 
@@ -112,7 +114,7 @@ pub fn row(asked: &Asked) -> Row {
 /// Measures the number of an order, and the way back from it where there is one.
 pub fn number_row(name: &str, order: &[u64]) -> Row {
     let (answer, cost) = number_cost(&bytes(order));
-    let number = answer - ACCEPTED;
+    let number = count(answer);
     let entries: Vec<[u64; 3]> = pairs(order).iter().map(|&(a, b)| [a, b, 1]).collect();
     let table = bytes(entries.iter().flatten());
     Row {

@@ -3,7 +3,7 @@
 use super::measure::Row;
 use super::typical::Typical;
 use crate::pass::{cells, Cost};
-use reference::rcds::ACCEPTED;
+use reference::rcds::{count, ACCEPTED};
 
 /// A row for each multiset.
 pub fn print(rows: &[Row]) {
@@ -14,10 +14,10 @@ pub fn print(rows: &[Row]) {
     println!("| multiset | pairs | trails | number | answer | order, µs | passes | number, µs | passes |");
     println!("|---|---:|---:|---:|---:|---:|---:|---:|---:|");
     for row in rows {
-        let answer = match row.answer.checked_sub(ACCEPTED) {
-            Some(_) if row.order.is_none() => "not asked".to_string(),
-            Some(ids) => format!("{ids} ids"),
-            None => format!("refused by {}", row.answer),
+        let answer = match row.answer {
+            refusal if refusal < ACCEPTED => format!("refused by {refusal}"),
+            _ if row.order.is_none() => "not asked".to_string(),
+            answer => format!("{} ids", count(answer)),
         };
         let of = |cost: &Option<Cost>| cost.as_ref().map_or("| ".to_string(), cells);
         println!(
@@ -46,18 +46,19 @@ pub fn print_typical(rows: &[Typical]) {
         "The children of a tree's nodes over 16 KiB, w p L M: the middle one and the slowest."
     );
     println!();
-    println!("| tree | nodes | children, mean | above 4,095 | number, µs | passes | slowest, µs | passes | order, µs | passes | slowest, µs | passes |");
-    println!("|---|---:|---:|---:|---:|---:|---:|---:|---:|---:|---:|---:|");
+    println!("| tree | nodes | children, mean | only trail | above 4,095 | number, µs | passes | slowest, µs | passes | order, µs | passes | slowest, µs | passes |");
+    println!("|---|---:|---:|---:|---:|---:|---:|---:|---:|---:|---:|---:|---:|");
     for row in rows {
         let of = |costs: &[Cost]| match middle_and_largest(costs) {
             Some((middle, largest)) => format!("{} | {}", cells(&middle), cells(&largest)),
             None => " | | | ".to_string(),
         };
         println!(
-            "| {} | {} | {:.1} | {} | {} | {} |",
+            "| {} | {} | {:.1} | {} | {} | {} | {} |",
             row.name,
             row.orders,
             row.children,
+            row.only,
             row.above,
             of(&row.numbers),
             of(&row.back),

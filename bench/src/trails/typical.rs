@@ -2,7 +2,7 @@
 
 use super::measure::{bytes, number_cost, order_cost};
 use crate::pass::Cost;
-use reference::rcds::ACCEPTED;
+use reference::rcds::{count, says_only};
 use reference::settings::Settings;
 use reference::trail::{pairs, MOST_NUMBER};
 use reference::tree::{tree, Node};
@@ -14,6 +14,8 @@ pub struct Typical {
     pub orders: usize,
     /// The mean of their children.
     pub children: f64,
+    /// How many are the only trail over their pairs and are sent without a number.
+    pub only: usize,
     /// How many have a number above 4,095 and are sent as bytes.
     pub above: usize,
     pub numbers: Vec<Cost>,
@@ -60,6 +62,7 @@ fn typical(content: (&str, u64), settings: [u64; 4]) -> Typical {
         name: format!("{}, {window} {fan_out} {levels} {nominal}", content.0),
         orders: some.len(),
         children: some.iter().map(|ids| ids.len()).sum::<usize>() as f64 / some.len() as f64,
+        only: 0,
         above: 0,
         numbers: Vec::new(),
         back: Vec::new(),
@@ -67,13 +70,14 @@ fn typical(content: (&str, u64), settings: [u64; 4]) -> Typical {
     for ids in some {
         let (answer, cost) = number_cost(&bytes(ids));
         typical.numbers.push(cost);
-        if answer - ACCEPTED > MOST_NUMBER {
+        typical.only += usize::from(says_only(answer));
+        if count(answer) > MOST_NUMBER {
             typical.above += 1;
             continue;
         }
         let entries: Vec<[u64; 3]> = pairs(ids).iter().map(|&(a, b)| [a, b, 1]).collect();
         let table = bytes(entries.iter().flatten());
-        typical.back.push(order_cost(&table, answer - ACCEPTED));
+        typical.back.push(order_cost(&table, count(answer)));
     }
     typical
 }

@@ -1,6 +1,7 @@
 -- Each way out of composing is a case of its definition.
 use mathlib.Core.Bool.{Bool, true, false, cond, _&&_, false≢true}
 use mathlib.Core.List.{List, _++_}
+use mathlib.Core.Option.{Option}
 use mathlib.Core.Path.{_≡_, refl, sym, ap, _∙_}
 use Prim.Native.Nat.{ℕ, _+_, _-_, _≤_, _<_}
 use native.Mathlib.Omega.{arith}
@@ -11,10 +12,11 @@ use Rattle.tree.specs.declared.Settings.{Settings}
 use Rattle.shingle.specs.declared.Shingle.{Shingle}
 use Rattle.trail.specs.declared.Pairs.{Pairs}
 use Rattle.trail.specs.declared.Trail.{Trail}
-use Rattle.trail.specs.Trails.{total, trailsOver, orderOf}
+use Rattle.trail.specs.Trails.{total, trailsOver, orderOf, onlyOver}
 use Rattle.trail.specs.Calls.{orderable, orderAnswer}
 use Rattle.trail.proofs.Answers.{order-accepted}
 use Rattle.message.specs.Words.{Ref}
+use Rattle.protocol.specs.Numbers.{meantBy, rightly}
 use Rattle.protocol.specs.Receiver.{allNamed, previouses, owns, counts, composes}
 use Rattle.composition.specs.declared.Children.{Children}
 use Rattle.composition.specs.declared.table.Table.{Table}
@@ -24,8 +26,8 @@ use Rattle.composition.proofs.Padding.{total-padded, trails-padded}
 use Rattle.composition.proofs.Passing.{Passed, passed, passes}
 
 -- The trail over the table of the references' pairs is the trail over the pairs.
-module _ (list : List Shingle) (level number : ℕ) (refs : List Ref) (table : Table) (filled : Filled list level refs table)
-    (all : table .named ≡ true) (order : Trail) (is : order ≡ orderAnswer (table .pairs) number) where
+module _ (list : List Shingle) (level : ℕ) (trail : Option ℕ) (refs : List Ref) (table : Table) (filled : Filled list level refs table)
+    (all : table .named ≡ true) (order : Trail) (is : order ≡ orderAnswer (table .pairs) (meantBy trail)) where
   abbrev pairs : Pairs
   pairs = table .pairs
 
@@ -42,10 +44,10 @@ module _ (list : List Shingle) (level number : ℕ) (refs : List Ref) (table : T
       (length-map refs _ ∙ sym (length-map refs _))
 
   -- A trail that question 17 lets pass has ids.
-  trail-there : (σ : Settings) (l rest : ℕ) → Passed σ list l number refs rest → order .k ≡ 0 → ⊥
+  trail-there : (σ : Settings) (l rest : ℕ) → Passed σ list l trail refs rest → order .k ≡ 0 → ⊥
   trail-there σ l rest p z = let k = size in omega (arith, k, same-total, p .some, z)
     where
-      orders : orderable pairs number ≡ true
+      orders : orderable pairs (meantBy trail) ≡ true
       orders =
           unfold orderable in
           rw (
@@ -53,18 +55,18 @@ module _ (list : List Shingle) (level number : ℕ) (refs : List Ref) (table : T
             same-trails,
             lt-ltb 0 (total (counts refs)) (p .some),
             lt-ltb (total (counts refs)) 33 (omega (arith, p .few)),
-            lt-ltb number 4096 (omega (arith, p .small)),
-            lt-ltb number _ (p .there),
+            lt-ltb (meantBy trail) 4096 (omega (arith, p .small)),
+            lt-ltb (meantBy trail) _ (p .there),
           )
 
       size : order .k ≡ total (pairs .count)
       size = unfold orderAnswer in rw (is, orders)
 
   module _ (some : order .k ≡ 0 → ⊥) where
-    ordered : orderable pairs number ≡ true
-    ordered = go (orderable pairs number) refl
+    ordered : orderable pairs (meantBy trail) ≡ true
+    ordered = go (orderable pairs (meantBy trail)) refl
       where
-        go : (b : Bool) → orderable pairs number ≡ b → b ≡ true
+        go : (b : Bool) → orderable pairs (meantBy trail) ≡ b → b ≡ true
         go true e = refl
         go false e = absurd (some (unfold orderAnswer in rw (is, e)))
 
@@ -72,16 +74,21 @@ module _ (list : List Shingle) (level number : ℕ) (refs : List Ref) (table : T
     unfolding orderAnswer
     size-is = rw (is, ordered) same-total
 
-    ids-are : order .ids ≡ orderOf (previouses list refs) (owns list refs) (counts refs) number ++ replicate (32 - total (counts refs)) 0
+    ids-are : order .ids ≡ orderOf (previouses list refs) (owns list refs) (counts refs) (meantBy trail) ++ replicate (32 - total (counts refs)) 0
     unfolding orderAnswer orderOf
     ids-are = rw (is, ordered, same-trails, same-total)
 
-    pub trail-short : order .k ≤ 32
-    trail-short = let a = order-accepted pairs number ordered .1 in omega (arith, size-is, same-total, a)
+    only-is : order .only ≡ onlyOver (previouses list refs) (owns list refs) (counts refs)
+    unfolding orderAnswer onlyOver
+    only-is = rw (is, ordered, same-trails)
 
-    accepted : (σ : Settings) (l rest : ℕ) → level ≡ l + 1 → l < σ .levels → rest ≤ 128 - order .k → Passed σ list l number refs rest
-    accepted σ l rest e low h =
-        let a = order-accepted pairs number ordered in
+    pub trail-short : order .k ≤ 32
+    trail-short = let a = order-accepted pairs (meantBy trail) ordered .1 in omega (arith, size-is, same-total, a)
+
+    accepted : (σ : Settings) (l rest : ℕ) → level ≡ l + 1 → l < σ .levels → rightly trail (order .only) ≡ true → rest ≤ 128 - order .k
+        → Passed σ list l trail refs rest
+    accepted σ l rest e low carried h =
+        let a = order-accepted pairs (meantBy trail) ordered in
         let k = a .0 in
         let n = a .1 in
         let m = a .2 in
@@ -92,56 +99,63 @@ module _ (list : List Shingle) (level number : ℕ) (refs : List Ref) (table : T
           few = omega (arith, same-total);
           small = omega arith;
           there = rw same-trails at (a .3);
+          carried = ap (rightly trail) (sym only-is) ∙ carried;
           room = omega (arith, size-is, trail-short);
         }
 
-module _ (σ : Settings) (list : List Shingle) (l number : ℕ) (refs : List Ref) (rest : ℕ) where
+module _ (σ : Settings) (list : List Shingle) (l : ℕ) (trail : Option ℕ) (refs : List Ref) (rest : ℕ) where
   -- A no.
-  none-given : (length refs ≤ 32 → Passed σ list l number refs rest → ⊥) → refused ≡ childrenOf σ list l number refs rest
+  none-given : (length refs ≤ 32 → Passed σ list l trail refs rest → ⊥) → refused ≡ childrenOf σ list l trail refs rest
   unfolding childrenOf
-  none-given f = go (leb (length refs) 32) (composes σ list l number refs rest) refl refl
+  none-given f = go (leb (length refs) 32) (composes σ list l trail refs rest) refl refl
     where
-      go : (a b : Bool) → leb (length refs) 32 ≡ a → composes σ list l number refs rest ≡ b
+      go : (a b : Bool) → leb (length refs) 32 ≡ a → composes σ list l trail refs rest ≡ b
           → refused
           ≡ cond (a && b)
           (record {
             composed = true;
             count = total (counts refs);
-            ids = orderOf (previouses list refs) (owns list refs) (counts refs) number ++ replicate (32 - total (counts refs)) 0;
+            ids = orderOf (previouses list refs) (owns list refs) (counts refs) (meantBy trail) ++ replicate (32 - total (counts refs)) 0;
           })
           refused
-      go true true ea eb = absurd (f (leb-true (length refs) 32 ea) (passed σ list l number refs rest eb))
+      go true true ea eb = absurd (f (leb-true (length refs) 32 ea) (passed σ list l trail refs rest eb))
       go true false ea eb = refl
       go false b ea eb = refl
 
-  pub level-too-low : (r : Children) → r ≡ refused → σ .levels ≤ l → r ≡ childrenOf σ list l number refs rest
+  pub level-too-low : (r : Children) → r ≡ refused → σ .levels ≤ l → r ≡ childrenOf σ list l trail refs rest
   level-too-low r e h = e ∙ none-given (λ few p. omega (arith, p .level))
 
-  pub too-many : (count : ℕ) → length refs ≡ count → (r : Children) → r ≡ refused → 32 < count → r ≡ childrenOf σ list l number refs rest
+  pub too-many : (count : ℕ) → length refs ≡ count → (r : Children) → r ≡ refused → 32 < count → r ≡ childrenOf σ list l trail refs rest
   too-many count long r e h = e ∙ none-given (λ few p. omega arith)
 
   module _ (table : Table) (filled : Filled list (l + 1) refs table) where
-    pub one-unnamed : (r : Children) → r ≡ refused → table .named ≡ false → r ≡ childrenOf σ list l number refs rest
+    pub one-unnamed : (r : Children) → r ≡ refused → table .named ≡ false → r ≡ childrenOf σ list l trail refs rest
     one-unnamed r e f = e ∙ none-given (λ few p. false≢true (sym f ∙ (filled .is ∙ p .named)))
 
-    module _ (all : table .named ≡ true) (order : Trail) (is : order ≡ orderAnswer (table .pairs) number) where
-      pub no-trail : (r : Children) → r ≡ refused → order .k ≡ 0 → r ≡ childrenOf σ list l number refs rest
-      no-trail r e z = e ∙ none-given (λ few p. trail-there list (l + 1) number refs table filled all order is σ l rest p z)
+    module _ (all : table .named ≡ true) (order : Trail) (is : order ≡ orderAnswer (table .pairs) (meantBy trail)) where
+      pub no-trail : (r : Children) → r ≡ refused → order .k ≡ 0 → r ≡ childrenOf σ list l trail refs rest
+      no-trail r e z = e ∙ none-given (λ few p. trail-there list (l + 1) trail refs table filled all order is σ l rest p z)
 
       module _ (some : order .k ≡ 0 → ⊥) where
         abbrev size : order .k ≡ total (counts refs)
-        size = size-is list (l + 1) number refs table filled all order is some
+        size = size-is list (l + 1) trail refs table filled all order is some
 
-        pub pile-too-high : (r : Children) → r ≡ refused → 128 - order .k < rest → r ≡ childrenOf σ list l number refs rest
+        -- The number is carried where there is no other trail, or omitted where there is one.
+        pub carried-wrongly : (r : Children) → r ≡ refused → rightly trail (order .only) ≡ false → r ≡ childrenOf σ list l trail refs rest
+        carried-wrongly r e f =
+            let only = only-is list (l + 1) trail refs table filled all order is some in
+            e ∙ none-given (λ few p. false≢true (sym f ∙ (ap (rightly trail) only ∙ p .carried)))
+
+        pub pile-too-high : (r : Children) → r ≡ refused → 128 - order .k < rest → r ≡ childrenOf σ list l trail refs rest
         pile-too-high r e h = e ∙ none-given (λ few p. omega (arith, size, p .room))
 
         -- The yes.
-        pub composed : (count : ℕ) → length refs ≡ count → count ≤ 32 → l < σ .levels → rest ≤ 128 - order .k
-            → record { composed = true; count = order .k; ids = order .ids } ≡ childrenOf σ list l number refs rest
+        pub composed : (count : ℕ) → length refs ≡ count → count ≤ 32 → l < σ .levels → rightly trail (order .only) ≡ true → rest ≤ 128 - order .k
+            → record { composed = true; count = order .k; ids = order .ids } ≡ childrenOf σ list l trail refs rest
         unfolding childrenOf
-        composed count long few low h =
+        composed count long few low carried h =
             rw (
               le-leb (length refs) 32 (omega arith),
-              passes σ list l number refs rest (accepted list (l + 1) number refs table filled all order is some σ l rest refl low h),
+              passes σ list l trail refs rest (accepted list (l + 1) trail refs table filled all order is some σ l rest refl low carried h),
             )
-            (λ i. record { composed = true; count = size i; ids = ids-are list (l + 1) number refs table filled all order is some i })
+            (λ i. record { composed = true; count = size i; ids = ids-are list (l + 1) trail refs table filled all order is some i })

@@ -1,7 +1,7 @@
 -- What a receiver takes from the answer: of a well-formed composition it is question 17's, and the children are those of the definition.
 use mathlib.Core.Bool.{Bool, true, false, cond, _&&_}
 use mathlib.Core.List.{List, [], _∷_, map}
-use mathlib.Core.Option.{none, some}
+use mathlib.Core.Option.{Option, none, some}
 use mathlib.Core.Path.{_≡_, refl, sym, ap, subst, _∙_}
 use Prim.Native.Nat.{ℕ, zero, suc, _+_, _-_, _%_, _≤_, _<_}
 use native.Mathlib.Omega.{arith}
@@ -14,15 +14,16 @@ use Rattle.shingle.specs.declared.Shingle.{Shingle}
 use Rattle.trail.specs.Trails.{total, orderOf}
 use Rattle.trail.proofs.Orders.{listed-length}
 use Rattle.message.specs.Words.{linkWords, Ref, referenceWord, isEnd}
-use Rattle.message.specs.Fields.{Every, one, head, number, value, many, manyFrom, manyAfter, rising, textAfter}
+use Rattle.message.specs.Fields.{Every, one, head, number, value, many, manyFrom, textAfter}
 use Rattle.message.specs.Messages.{Msg, composition, bodyOf, parseWords, parse}
-use Rattle.message.specs.Reading.{numbersAre, pairIs, openingAt}
-use Rattle.message.specs.Parts.{referencesIn}
+use Rattle.message.specs.Reading.{statedBy, referencesAt, numbersAre, pairIs, openingAt}
+use Rattle.message.specs.Parts.{referencesIn, isNumbered}
 use Rattle.message.proofs.Words.{reference-lawful}
 use Rattle.message.proofs.Fields.{was-taken, went, many-lawful}
 use Rattle.message.proofs.Messages.{picked, none-is-none}
-use Rattle.message.proofs.Reading.{cellsEnd, opening-query-form, node-query-form, no-node-form, literal-form, composition-form, opening-form}
+use Rattle.message.proofs.Reading.{cellsEnd, composed, referencesEnd, opening-query-form, node-query-form, no-node-form, literal-form, composition-form, opening-form}
 use Rattle.message.proofs.Parts.{reference-read}
+use Rattle.protocol.specs.Numbers.{meantBy}
 use Rattle.protocol.specs.State.{pending}
 use Rattle.protocol.specs.Receiver.{previouses, owns, counts, composes, children}
 use Rattle.composition.specs.declared.Children.{Children}
@@ -39,8 +40,8 @@ module _ (ws : List ℕ) where
   found-fits : (m found : Msg) (t : Bool) → cond t (some found) none ≡ some m → Fitting found → Fitting m
   found-fits m found t e f = let w = was-taken t (some found) m e in subst Fitting (cc) f
 
-  many-fits : Every (referenceWord .Fits) (manyFrom referenceWord (drop 6 ws))
-  many-fits = unfold many in many-lawful referenceWord reference-lawful .fits (drop 6 ws) refl
+  many-fits : (at : ℕ) → Every (referenceWord .Fits) (manyFrom referenceWord (drop at ws))
+  many-fits at = unfold many in many-lawful referenceWord reference-lawful .fits (drop at ws) refl
 
   body-fits : (c n t : ℕ) (m : Msg) → bodyOf c n t (drop 1 ws) ≡ some m → Fitting m
   unfolding bodyOf referencesIn openingAt
@@ -51,10 +52,9 @@ module _ (ws : List ℕ) where
       (λ is p. found-fits m _ (numbersAre ws 1 7 && (value .is (drop 8 ws) && cellsEnd ws c n)) (sym (opening-form ws c n) ∙ p) tt) λ e.
       picked (eqb t 4) _ _ e
       (λ is p.
-      found-fits m _
-      (pairIs ws && (number .is (drop 5 ws)
-      && (rising (manyFrom referenceWord (drop 6 ws)) && isEnd c (manyAfter referenceWord (drop 6 ws)))))
-      (sym (composition-form ws c n) ∙ p) many-fits) λ e.
+      let at = referencesAt (number .is (drop 5 ws)) in
+      found-fits m (composed ws c n (number .is (drop 5 ws)) at) (pairIs ws && referencesEnd ws c n at)
+      (sym (composition-form ws c n) ∙ p) (many-fits at)) λ e.
       picked (eqb t 5) _ _ e (λ is p. found-fits m _ (pairIs ws && isEnd c (textAfter (drop 5 ws))) (sym (literal-form ws c n) ∙ p) tt) λ e.
       picked (eqb t 6) _ _ e (λ is p. found-fits m _ (pairIs ws && isEnd c (drop 5 ws)) (sym (no-node-form ws c n) ∙ p) tt) λ e.
       absurd (none-is-none e)
@@ -80,39 +80,39 @@ refs-at ws (suc n) at (suc k) d h =
     refs-at ws n (at + 1) k d (omega arith) ∙ ap (λ (m : ℕ). referenceWord .of (getD ws m 0)) {x = at + 1 + k} {y = at + suc k} (omega arith)
 
 -- What the answer says of the children.
-pub record Composed (list : List Shingle) (l number : ℕ) (refs : List Ref) (rest : ℕ) (r : Children) : Type 0 where
-  pub pending-are : map (pending (l + 1)) (take (r .count) (r .ids)) ≡ children list l number refs
+pub record Composed (list : List Shingle) (l : ℕ) (trail : Option ℕ) (refs : List Ref) (rest : ℕ) (r : Children) : Type 0 where
+  pub pending-are : map (pending (l + 1)) (take (r .count) (r .ids)) ≡ children list l trail refs
   pub count-is : r .count ≡ total (counts refs)
   pub some-are : 1 ≤ r .count
   pub few : r .count ≤ 32
   pub room : rest + r .count ≤ 128
 
-module _ (message : List ℕ) (n l i number : ℕ) (refs : List Ref) (is : parse message ≡ some (composition n l i number refs)) where
-  -- The references that are read are those of the message.
-  pub refs-are : (count : ℕ) → count ≡ length refs → refsIn message count ≡ refs
+module _ (message : List ℕ) (n l i : ℕ) (trail : Option ℕ) (refs : List Ref) (is : parse message ≡ some (composition n l i trail refs)) where
+  -- The references that are read from their place on are those of the message.
+  pub refs-are : (at count : ℕ) → at ≡ referencesAt (isNumbered (composition n l i trail refs)) → count ≡ length refs → refsIn message at count ≡ refs
   unfolding refsIn referencesIn
-  refs-are count e =
-      ext-getD (ref 0 0) (refsFrom (linkWords message) count 6) refs (length-refs message count ∙ e) λ k h.
-      let low : k < count = omega (arith, length-refs message count, h) in
-      refs-at (linkWords message) count 6 k (ref 0 0) low
-      ∙ reference-read message 6 k (referenceWord .of (getD (linkWords message) (6 + k) 0)) refl .read (composition n l i number refs) is refl
+  refs-are at count from e =
+      ext-getD (ref 0 0) (refsFrom (linkWords message) count at) refs (length-refs message at count ∙ e) λ k h.
+      let low : k < count = omega (arith, length-refs message at count, h) in
+      refs-at (linkWords message) count at k (ref 0 0) low
+      ∙ reference-read message at k (referenceWord .of (getD (linkWords message) (at + k) 0)) refl .read (composition n l i trail refs) is from
       (omega arith)
 
   module _ (σ : Settings) (list : List Shingle) (rest : ℕ) where
     abbrev answer : Children
-    answer = childrenOf σ list l number refs rest
+    answer = childrenOf σ list l trail refs rest
 
-    not-many : composes σ list l number refs rest ≡ true → length refs ≤ 32
+    not-many : composes σ list l trail refs rest ≡ true → length refs ≤ 32
     not-many e =
-        let p = passed σ list l number refs rest e in
+        let p = passed σ list l trail refs rest e in
         let long : length refs ≤ total (counts refs) =
-        unfold referencesIn in at-most-total refs (fits message (composition n l i number refs) is) in
+        unfold referencesIn in at-most-total refs (fits message (composition n l i trail refs) is) in
         omega (arith, p .few)
 
     -- (1) The answer is question 17's.
-    pub composed-is : answer .composed ≡ composes σ list l number refs rest
+    pub composed-is : answer .composed ≡ composes σ list l trail refs rest
     unfolding childrenOf
-    composed-is = said (leb (length refs) 32) (composes σ list l number refs rest) _ refl (λ e. le-leb (length refs) 32 (not-many e))
+    composed-is = said (leb (length refs) 32) (composes σ list l trail refs rest) _ refl (λ e. le-leb (length refs) 32 (not-many e))
       where
         said : (a b : Bool) (given : Children) → given .composed ≡ true → (b ≡ true → a ≡ true) → cond (a && b) given refused .composed ≡ b
         said true true given e h = e
@@ -121,17 +121,17 @@ module _ (message : List ℕ) (n l i number : ℕ) (refs : List Ref) (is : parse
         said false false given e h = refl
 
     -- (2) Where it is yes, the children are those of the definition.
-    pub composed-gives : answer .composed ≡ true → Composed list l number refs rest answer
+    pub composed-gives : answer .composed ≡ true → Composed list l trail refs rest answer
     unfolding childrenOf children
     composed-gives e =
-        let asked : composes σ list l number refs rest ≡ true = sym composed-is ∙ e in
-        let p = passed σ list l number refs rest asked in
-        let long = listed-length (previouses list refs) (owns list refs) (counts refs) columns number (p .there) in
+        let asked : composes σ list l trail refs rest ≡ true = sym composed-is ∙ e in
+        let p = passed σ list l trail refs rest asked in
+        let long = listed-length (previouses list refs) (owns list refs) (counts refs) columns (meantBy trail) (p .there) in
         rw (le-leb (length refs) 32 (not-many asked), asked)
         (record {
           pending-are =
               ap (map (pending (l + 1)))
-              (take-at (orderOf (previouses list refs) (owns list refs) (counts refs) number) _ (total (counts refs)) long);
+              (take-at (orderOf (previouses list refs) (owns list refs) (counts refs) (meantBy trail)) _ (total (counts refs)) long);
           count-is = refl;
           some-are = p .some;
           few = p .few;
@@ -141,17 +141,26 @@ module _ (message : List ℕ) (n l i number : ℕ) (refs : List Ref) (is : parse
         columns : (length (previouses list refs) ≡ length (counts refs)) × (length (owns list refs) ≡ length (counts refs))
         columns = (length-map refs _ ∙ sym (length-map refs _), length-map refs _ ∙ sym (length-map refs _))
 
--- Both, of an answer over the references that were read.
-pub record Answered (σ : Settings) (list : List Shingle) (l number : ℕ) (refs : List Ref) (rest : ℕ) (r : Children) : Type 0 where
-  pub is : r .composed ≡ composes σ list l number refs rest
-  pub gives : r .composed ≡ true → Composed list l number refs rest r
+-- A composition carries a number exactly if one is stated.
+numbered-is : (n l i : ℕ) (numbered : Bool) (number : ℕ) (refs : List Ref) → isNumbered (composition n l i (statedBy numbered number) refs) ≡ numbered
+unfolding isNumbered
+numbered-is n l i true number refs = refl
+numbered-is n l i false number refs = refl
 
-pub answered : (message : List ℕ) (n l i number : ℕ) (refs : List Ref) → parse message ≡ some (composition n l i number refs)
-    → (count : ℕ) → count ≡ length refs
-    → (σ : Settings) (list : List Shingle) (rest : ℕ) (r : Children) → r ≡ childrenOf σ list l number (refsIn message count) rest
-    → Answered σ list l number refs rest r
-answered message n l i number refs is count e σ list rest r f =
-    let same : childrenOf σ list l number refs rest ≡ r =
-    sym (f ∙ ap (λ (x : List Ref). childrenOf σ list l number x rest) (refs-are message n l i number refs is count e)) in
-    subst (Answered σ list l number refs rest) same
-    (record { is = composed-is message n l i number refs is σ list rest; gives = composed-gives message n l i number refs is σ list rest })
+-- Both, of an answer over the references that were read.
+pub record Answered (σ : Settings) (list : List Shingle) (l : ℕ) (trail : Option ℕ) (refs : List Ref) (rest : ℕ) (r : Children) : Type 0 where
+  pub is : r .composed ≡ composes σ list l trail refs rest
+  pub gives : r .composed ≡ true → Composed list l trail refs rest r
+
+pub answered : (message : List ℕ) (n l i : ℕ) (numbered : Bool) (number : ℕ) (refs : List Ref)
+    → parse message ≡ some (composition n l i (statedBy numbered number) refs) → (count : ℕ) → count ≡ length refs
+    → (σ : Settings) (list : List Shingle) (rest : ℕ) (r : Children)
+    → r ≡ childrenOf σ list l (statedBy numbered number) (refsIn message (referencesAt numbered) count) rest
+    → Answered σ list l (statedBy numbered number) refs rest r
+answered message n l i numbered number refs is count e σ list rest r f =
+    let trail = statedBy numbered number in
+    let from : referencesAt numbered ≡ referencesAt (isNumbered (composition n l i trail refs)) = ap referencesAt (sym (numbered-is n l i numbered number refs)) in
+    let same : childrenOf σ list l trail refs rest ≡ r =
+    sym (f ∙ ap (λ (x : List Ref). childrenOf σ list l trail x rest) (refs-are message n l i trail refs is (referencesAt numbered) count from e)) in
+    subst (Answered σ list l trail refs rest) same
+    (record { is = composed-is message n l i trail refs is σ list rest; gives = composed-gives message n l i trail refs is σ list rest })

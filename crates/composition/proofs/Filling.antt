@@ -38,17 +38,17 @@ unfolding refsFrom
 length-from ws zero at = refl
 length-from ws (suc n) at = ap suc (length-from ws n (at + 1))
 
-pub length-refs : (message : List ℕ) (count : ℕ) → length (refsIn message count) ≡ count
+pub length-refs : (message : List ℕ) (at count : ℕ) → length (refsIn message at count) ≡ count
 unfolding refsIn
-length-refs message count = length-from (linkWords message) count 6
+length-refs message at count = length-from (linkWords message) count at
 
 -- The references up to reference k, it, and those after it.
-refs-around : (message : List ℕ) (count k n : ℕ) (r : Ref) → count ≡ k + suc n → ReferenceRead message 6 k r
-    → refsIn message count ≡ refsIn message k ++ r ∷ refsFrom (linkWords message) n (6 + k + 1)
+refs-around : (message : List ℕ) (at count k n : ℕ) (r : Ref) → count ≡ k + suc n → ReferenceRead message at k r
+    → refsIn message at count ≡ refsIn message at k ++ r ∷ refsFrom (linkWords message) n (at + k + 1)
 unfolding refsIn refsFrom
-refs-around message count k n r e read =
-    refs-split (linkWords message) count k (suc n) 6 e
-    ∙ ap (λ (x : Ref). refsFrom (linkWords message) k 6 ++ x ∷ refsFrom (linkWords message) n (6 + k + 1)) (sym (read .stands))
+refs-around message at count k n r e read =
+    refs-split (linkWords message) count k (suc n) at e
+    ∙ ap (λ (x : Ref). refsFrom (linkWords message) k at ++ x ∷ refsFrom (linkWords message) n (at + k + 1)) (sym (read .stands))
 
 module _ (list : List Shingle) (level : ℕ) where
   named-so-far : (refs : List Ref) (r : Ref) → allNamed list level refs ≡ true → isNamed list level r ≡ true
@@ -119,60 +119,65 @@ column-more f column refs r x k e h is same =
     ∙ sym (rw (map-append f refs (r ∷ []), long)))))
 
 -- The first k references are as they should be, and their pairs are in the columns.
-pub record Filling (list : List Shingle) (level : ℕ) (message : List ℕ) (count k : ℕ) (previous own times : List ℕ) : Type 0 where
+pub record Filling (list : List Shingle) (level : ℕ) (message : List ℕ) (at count k : ℕ) (previous own times : List ℕ) : Type 0 where
   pub fits : k ≤ count
-  pub named-all : allNamed list level (refsIn message k) ≡ true
-  pub columns : Columns list (refsIn message k) previous own times
+  pub named-all : allNamed list level (refsIn message at k) ≡ true
+  pub columns : Columns list (refsIn message at k) previous own times
 
-pub fill-start : (list : List Shingle) (level : ℕ) (message : List ℕ) (count : ℕ)
-    → Filling list level message count 0 (replicate 32 0) (replicate 32 0) (replicate 32 0)
+pub fill-start : (list : List Shingle) (level : ℕ) (message : List ℕ) (at count : ℕ)
+    → Filling list level message at count 0 (replicate 32 0) (replicate 32 0) (replicate 32 0)
 unfolding refsIn refsFrom allNamed padded
-fill-start list level message count =
+fill-start list level message at count =
     record { fits = omega arith; named-all = refl; columns = record { previous-is = refl; own-is = refl; count-is = refl } }
 
-module _ (list : List Shingle) (level : ℕ) (message : List ℕ) (count k : ℕ) (previous own times : List ℕ)
-    (c : Filling list level message count k previous own times) where
-  module _ (h : k < count) (r : Ref) (read : ReferenceRead message 6 k r) (row : Row) (look : Named list level r row) where
-    pub fill-stop : (table : Table) → table .named ≡ false → row .named ≡ false → Filled list level (refsIn message count) table
+module _ (list : List Shingle) (level : ℕ) (message : List ℕ) (at count k : ℕ) (previous own times : List ℕ)
+    (c : Filling list level message at count k previous own times) where
+  module _ (h : k < count) (r : Ref) (read : ReferenceRead message at k r) (row : Row) (look : Named list level r row) where
+    pub fill-stop : (table : Table) → table .named ≡ false → row .named ≡ false → Filled list level (refsIn message at count) table
     fill-stop table e f =
         let n = count - (k + 1) in
-        let parts : refsIn message count ≡ refsIn message k ++ r ∷ refsFrom (linkWords message) n (6 + k + 1) =
-        refs-around message count k n r (omega arith) read in
+        let parts : refsIn message at count ≡ refsIn message at k ++ r ∷ refsFrom (linkWords message) n (at + k + 1) =
+        refs-around message at count k n r (omega arith) read in
         record {
           is =
               e ∙ sym (ap (allNamed list level) parts
-              ∙ unnamed-among list level (refsIn message k) r (refsFrom (linkWords message) n (6 + k + 1)) (sym (look .is) ∙ f));
+              ∙ unnamed-among list level (refsIn message at k) r (refsFrom (linkWords message) n (at + k + 1)) (sym (look .is) ∙ f));
           columns = λ g. absurd (false≢true (sym e ∙ g));
         }
 
     pub fill-next : count ≤ 32 → row .named ≡ true
-        → Filling list level message count (k + 1) (set previous k (row .previous)) (set own k (row .own)) (set times k (r .count))
+        → Filling list level message at count (k + 1) (set previous k (row .previous)) (set own k (row .own)) (set times k (r .count))
     fill-next few e =
-        let long : length (refsIn message k) ≡ k = length-refs message k in
-        let more : refsIn message (k + 1) ≡ refsIn message k ++ r ∷ [] =
-        unfold refsFrom in refs-around message (k + 1) k 0 r (omega arith) read in
+        let long : length (refsIn message at k) ≡ k = length-refs message at k in
+        let more : refsIn message at (k + 1) ≡ refsIn message at k ++ r ∷ [] =
+        unfold refsFrom in refs-around message at (k + 1) k 0 r (omega arith) read in
         record {
           fits = omega arith;
-          named-all = ap (allNamed list level) more ∙ named-so-far list level (refsIn message k) r (c .named-all) (sym (look .is) ∙ e);
+          named-all = ap (allNamed list level) more ∙ named-so-far list level (refsIn message at k) r (c .named-all) (sym (look .is) ∙ e);
           columns =
               record {
                 previous-is =
-                    column-more (λ (x : Ref). named list x .previous) previous (refsIn message k) r (row .previous) k long (omega arith)
+                    column-more (λ (x : Ref). named list x .previous) previous (refsIn message at k) r (row .previous) k long (omega arith)
                     (c .columns .previous-is) (look .previous-is e)
                     ∙ ap (λ (l : List Ref). padded (previouses list l)) (sym more);
                 own-is =
-                    column-more (λ (x : Ref). named list x .own) own (refsIn message k) r (row .own) k long (omega arith) (c .columns .own-is)
+                    column-more (λ (x : Ref). named list x .own) own (refsIn message at k) r (row .own) k long (omega arith) (c .columns .own-is)
                     (look .own-is e)
                     ∙ ap (λ (l : List Ref). padded (owns list l)) (sym more);
                 count-is =
-                    column-more (λ (x : Ref). x .count) times (refsIn message k) r (r .count) k long (omega arith) (c .columns .count-is) refl
+                    column-more (λ (x : Ref). x .count) times (refsIn message at k) r (r .count) k long (omega arith) (c .columns .count-is) refl
                     ∙ ap (λ (l : List Ref). padded (counts l)) (sym more);
               };
         }
 
   pub fill-end : count ≤ k
-      → Filled list level (refsIn message count) (record { named = true; pairs = record { previous = previous; own = own; count = times } })
+      → Filled list level (refsIn message at count) (record { named = true; pairs = record { previous = previous; own = own; count = times } })
   fill-end h =
       let fits = c .fits in
-      let done : refsIn message k ≡ refsIn message count = ap (refsIn message) {x = k} {y = count} (omega arith) in
+      let done : refsIn message at k ≡ refsIn message at count = ap (refsIn message at) {x = k} {y = count} (omega arith) in
       record { is = sym (ap (allNamed list level) (sym done) ∙ c .named-all); columns = λ e. rw (← done) (c .columns) }
+
+-- The same said of where the references stand.
+pub filled-from : {list : List Shingle} {level : ℕ} (message : List ℕ) {at from : ℕ} (count : ℕ) {table : Table} → at ≡ from
+    → Filled list level (refsIn message at count) table → Filled list level (refsIn message from count) table
+filled-from message count e filled = rw (← e) filled

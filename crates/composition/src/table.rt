@@ -57,10 +57,10 @@ fn look_up(shingles: &[u8], size: usize, level: u64, index: u64, count: u64) -> 
     }
 }
 
-// Fills a table with the pairs of the first `count` references of a message, which name shingles of that level.
-pub fn fill(shingles: &[u8], message: &[u8], level: u64, count: usize) -> Table
+// Fills a table with the pairs of the first `count` references of a message from word `at` on, which name shingles of that level.
+pub fn fill(shingles: &[u8], message: &[u8], at: usize, level: u64, count: usize) -> Table
     requires { ⌜ count ≤ 32 ⌝ }
-    ensures { λ r. ⌜ Filled (shinglesIn (now (shingles .entry))) level (refsIn (now (message .entry)) count) r ⌝ }
+    ensures { λ r. ⌜ Filled (shinglesIn (now (shingles .entry))) level (refsIn (now (message .entry)) at count) r ⌝ }
 {
     let size = shingle::size(shingles);
     let mut previous = [0u64; 32];
@@ -68,7 +68,7 @@ pub fn fill(shingles: &[u8], message: &[u8], level: u64, count: usize) -> Table
     let mut counts = [0u64; 32];
     let mut k = 0;
     while k < count {
-        let reference = reference_at(message, 6, k);
+        let reference = reference_at(message, at, k);
         let row = look_up(shingles, size, level, reference.index, reference.count);
         if !row.named {
             return Table {

@@ -2,7 +2,7 @@
 -- a composition has at most 32 references.
 use mathlib.Core.Bool.{true, _&&_}
 use mathlib.Core.List.{List, [], _∷_}
-use mathlib.Core.Option.{some}
+use mathlib.Core.Option.{Option, none, some}
 use mathlib.Core.Path.{_≡_, subst}
 use Prim.Native.Nat.{ℕ, _+_, _*_, _/_, _≤_}
 use native.Mathlib.Omega.{arith}
@@ -17,7 +17,7 @@ use Rattle.sketch.proofs.Sums.{length-along}
 use Rattle.single.specs.Peeling.{rowsIn}
 use Rattle.setup.proofs.Questions.{width-within}
 use Rattle.message.specs.Words.{Ref, referenceWord}
-use Rattle.message.specs.Fields.{one, value, values, valuesTo, many, manyTo, only, text, textTo}
+use Rattle.message.specs.Fields.{one, value, values, valuesTo, many, manyTo, maybeTo, maybe, only, text, textTo}
 use Rattle.message.specs.Messages.{Msg, openingQuery, nodeQuery, opening, composition, literal, noNode, headed, wordsThen, sizeOf, encode}
 use Rattle.message.proofs.Messages.{length-encode}
 use Rattle.message_writer.proofs.Writing.{length-text}
@@ -40,9 +40,10 @@ literal-fits : (room n l i : ℕ) (bytes : List ℕ) → (6 + (length bytes + 2)
 unfolding sizeOf wordsThen headed one value text
 literal-fits room n l i bytes h = let e = length-append (textTo bytes) [] in omega (arith, e, length-text bytes, h)
 
-composition-fits : (room n l i x : ℕ) (refs : List Ref) → length refs ≤ 32 → 156 ≤ room → Fits room (composition n l i x refs)
-unfolding sizeOf wordsThen headed one value only many
-composition-fits room n l i x refs h k = let e = length-append (manyTo referenceWord refs) [] in omega (arith, e, length-references refs, h, k)
+composition-fits : (room n l i : ℕ) (x : Option ℕ) (refs : List Ref) → length refs ≤ 32 → 156 ≤ room → Fits room (composition n l i x refs)
+unfolding sizeOf wordsThen headed one value only many maybe maybeTo
+composition-fits room n l i none refs h k = let e = length-append (manyTo referenceWord refs) [] in omega (arith, e, length-references refs, h, k)
+composition-fits room n l i (some x) refs h k = let e = length-append (manyTo referenceWord refs) [] in omega (arith, e, length-references refs, h, k)
 
 opening-fits : (room n rule w p L M q len root : ℕ) (cells : List ℕ) → (12 + 3 * length cells) * 4 ≤ room
     → Fits room (opening n rule w p L M q len root cells)

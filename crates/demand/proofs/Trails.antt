@@ -18,13 +18,15 @@ use Rattle.setup.proofs.Questions.{ask-small}
 use Rattle.trail.specs.Trails.{Multiset, single, pairsFrom, tally, pairsOf, trailsOver, orderOf}
 use Rattle.trail.specs.Calls.{nonzero, numberAnswer, orderable}
 use Rattle.trail.proofs.Answers.{number-accepted, order-accepted}
-use Rattle.trail.proofs.Orders.{listed-pairs, listed-length, order-of-number, number-after-order}
+use Rattle.trail.proofs.Calls.{number-after-order}
+use Rattle.trail.proofs.Only.{only-alike}
+use Rattle.trail.proofs.Orders.{listed-pairs, listed-length, order-of-number}
 use Rattle.protocol.specs.Calls.{Every}
 use Rattle.protocol.proofs.Cases.{either}
 use Rattle.protocol.proofs.Readable.{Byte, row-small}
-use Rattle.rcds.specs.Trails.{column, bytesOfIds, trailNumberAnswer, pairsIn, sizeIn, trailOrderRefusal, Ordered}
+use Rattle.rcds.specs.Trails.{column, bytesOfIds, marked, markedNumber, trailNumberAnswer, pairsIn, onlyIn, sizeIn, trailOrderRefusal, Ordered}
 use Rattle.rcds.proofs.Columns.{length-ids}
-use Rattle.rcds.proofs.Answers.{length-column}
+use Rattle.rcds.proofs.Answers.{number-low, length-column}
 use Rattle.demand.specs.Trails.{held, HoldsPairsOf, OrderAfterNumber, NumberAfterOrder}
 
 abbrev Small : ℕ → Type 0
@@ -32,6 +34,19 @@ Small x = x < 2 ^ 64
 
 abbrev Nonzero : ℕ → Type 0
 Nonzero x = x ≡ 0 → ⊥
+
+-- The mark and what is marked: each can be told from the sum.
+marked-same : (a c : ℕ) (b d : Bool) → a < 2 ^ 33 → c < 2 ^ 33 → marked a b ≡ marked c d → (a ≡ c) × (b ≡ d)
+unfolding marked
+marked-same a c true true low few e = (omega (arith, e), refl)
+marked-same a c false false low few e = (e, refl)
+marked-same a c true false low few e = absurd (omega (arith, few, e))
+marked-same a c false true low few e = absurd (omega (arith, low, e))
+
+marked-count : (n : ℕ) (only : Bool) → n < 2 ^ 32 → (2 ^ 32 ≤ marked (2 ^ 32 + n) only) × (marked (2 ^ 32 + n) only % 2 ^ 32 ≡ n)
+unfolding marked
+marked-count n true few = (omega arith, omega (arith, few))
+marked-count n false few = (omega arith, omega (arith, few))
 
 -- Ids and their bytes.
 eight-again : (a b c d e f g h : ℕ) → Byte a → Byte b → Byte c → Byte d → Byte e → Byte f → Byte g → Byte h
@@ -137,7 +152,7 @@ module _ (table : List ℕ) where
     unfolding trailOrderRefusal
     low = ask-small 20 _ 17 _ (omega arith) (ask-small 20 _ 17 _ (omega arith) (ask-small 20 _ 20 0 (omega arith) (omega arith)))
 
-    taken : refusal ≡ 0 → (k ≡ 2 ^ 32 + sizeIn table) × (after ≡ bytesOfIds order ++ drop (sizeIn table * 8) before)
+    taken : refusal ≡ 0 → (k ≡ marked (2 ^ 32 + sizeIn table) (onlyIn table)) × (after ≡ bytesOfIds order ++ drop (sizeIn table * 8) before)
     taken z = (ordered .answer ∙ rw (eq-eqb refusal 0 z) refl, ordered .ids ∙ rw (eq-eqb refusal 0 z) refl)
 
     not-refused : 2 ^ 32 ≤ k → refusal ≡ 0
@@ -180,31 +195,43 @@ module _ (table : List ℕ) where
           (ids-alike Nonzero 0 order
           (λ p x e z. let there : 0 < held table p 0 = subst (λ (y : ℕ). 0 < held table p y) z (has-pairs p x e) in omega (arith, none p, there)))
 
-      written : take ((k - 2 ^ 32) * 8) after ≡ bytesOfIds order
-      written =
-          let t = taken (not-refused high) in
-          let many : length order * 8 ≡ (k - 2 ^ 32) * 8 = omega (arith, t .0, size) in
-          ap (take ((k - 2 ^ 32) * 8)) (t .1) ∙ take-at (bytesOfIds order) _ ((k - 2 ^ 32) * 8) (length-ids order ∙ many)
+      count-is : k % 2 ^ 32 ≡ sizeIn table
+      count-is =
+          let few = order-accepted (pairsIn table) number found .1 in
+          ap (λ (n : ℕ). n % 2 ^ 32) (taken (not-refused high) .0) ∙ marked-count (sizeIn table) (onlyIn table) (omega (arith, few)) .1
 
-      numbered : trailNumberAnswer (bytesOfIds order) ≡ 2 ^ 32 + number
+      written : take (k % 2 ^ 32 * 8) after ≡ bytesOfIds order
+      written =
+          let many : length order * 8 ≡ k % 2 ^ 32 * 8 = omega (arith, count-is, size) in
+          ap (take (k % 2 ^ 32 * 8)) (taken (not-refused high) .1) ∙ take-at (bytesOfIds order) _ (k % 2 ^ 32 * 8) (length-ids order ∙ many)
+
+      numbered : trailNumberAnswer (bytesOfIds order) ≡ marked (2 ^ 32 + number) (onlyIn table)
       unfolding trailNumberAnswer
       numbered =
           let whole : length (bytesOfIds order) % 8 ≡ 0 = omega (arith, length-ids order) in
-          rw (eq-eqb (length (bytesOfIds order) % 8) 0 whole) (ap numberAnswer (ids-words order small) ∙ number-after-order (pairsIn table) long number found some)
+          rw (eq-eqb (length (bytesOfIds order) % 8) 0 whole)
+          (ap markedNumber (ap numberAnswer (ids-words order small) ∙ number-after-order (pairsIn table) long number found some))
+
+      marked-alike : k ≡ marked (2 ^ 32 + k % 2 ^ 32) (onlyIn table)
+      marked-alike = taken (not-refused high) .0 ∙ ap (λ (n : ℕ). marked (2 ^ 32 + n) (onlyIn table)) (sym count-is)
 
 -- An order that has a number, and a table of its pairs.
-module _ (ids table before after : List ℕ) (number k : ℕ) (bytes : Every Byte ids) (answer : trailNumberAnswer ids ≡ 2 ^ 32 + number)
-    (few : number ≤ 4095) (holds : HoldsPairsOf ids table) (room : length ids ≤ length before) (ordered : Ordered table number before after k) where
+module _ (ids table before after : List ℕ) (number k : ℕ) (only : Bool) (bytes : Every Byte ids)
+    (answer : trailNumberAnswer ids ≡ marked (2 ^ 32 + number) only) (few : number ≤ 4095) (holds : HoldsPairsOf ids table)
+    (room : length ids ≤ length before) (ordered : Ordered table number before after k) where
   abbrev xs : List ℕ
   xs = wordsOf ids
 
-  whole : (length ids % 8 ≡ 0) × (numberAnswer xs ≡ 2 ^ 32 + number)
+  whole : (length ids % 8 ≡ 0) × (numberAnswer xs .answer ≡ 2 ^ 32 + number) × (numberAnswer xs .only ≡ only)
   unfolding trailNumberAnswer
   whole = go (eqb (length ids % 8) 0) refl answer
     where
-      go : (t : Bool) → eqb (length ids % 8) 0 ≡ t → cond t (numberAnswer xs) 17 ≡ 2 ^ 32 + number → (length ids % 8 ≡ 0) × (numberAnswer xs ≡ 2 ^ 32 + number)
-      go true e f = (eqb-true _ _ e, f)
-      go false e f = absurd (omega (arith, f))
+      go : (t : Bool) → eqb (length ids % 8) 0 ≡ t → cond t (markedNumber (numberAnswer xs)) 17 ≡ marked (2 ^ 32 + number) only
+          → (length ids % 8 ≡ 0) × (numberAnswer xs .answer ≡ 2 ^ 32 + number) × (numberAnswer xs .only ≡ only)
+      go true e f =
+          let same = marked-same (numberAnswer xs .answer) (2 ^ 32 + number) (numberAnswer xs .only) only (number-low xs (numberAnswer xs) refl) (omega (arith, few)) f in
+          (eqb-true _ _ e, same .0, same .1)
+      go false e f = absurd (omega (arith, marked-count number only (omega (arith, few)) .0, f))
 
   same : pairsFrom 0 xs ≡ held table
   same = fun-ext (λ p. fun-ext (λ x. holds .same p x))
@@ -234,18 +261,25 @@ module _ (ids table before after : List ℕ) (number k : ℕ) (bytes : Every Byt
   passes =
       rw (eq-eqb (length table % 24) 0 (holds .whole), le-leb (length table) 768 (holds .few), can-be-ordered, le-leb (sizeIn table * 8) (length before) (omega (arith, bytes-are, room))) refl
 
-  ordered-again : (k ≡ 2 ^ 32 + length ids / 8) × (after ≡ ids ++ drop (length ids) before)
+  only-is : onlyIn table ≡ only
+  only-is =
+      sym (only-alike (previouses table) (owns table) (counts table) (long table) xs same)
+      ∙ (sym (number-accepted xs number (whole .1) .4) ∙ whole .2)
+
+  ordered-again : (k ≡ marked (2 ^ 32 + length ids / 8) only) × (after ≡ ids ++ drop (length ids) before)
   ordered-again =
       let t = taken table number before after k ordered passes in
       let front = ap bytesOfIds (again .1) ∙ ids-bytes ids bytes (whole .0) in (
-        t .0 ∙ ap (λ (n : ℕ). 2 ^ 32 + n) (size-is ∙ length-words ids),
+        t .0 ∙ (λ i. marked (2 ^ 32 + (size-is ∙ length-words ids) i) (only-is i)),
         t .1 ∙ (λ i. front i ++ drop (bytes-are i) before),
       )
 
 pub order-after-number-of-calls : OrderAfterNumber
-order-after-number-of-calls ids table before after r number k bytes answers is few holds room ordered =
-    ordered-again ids table before after number k bytes (sym answers ∙ is) few holds room ordered
+order-after-number-of-calls ids table before after r number k only bytes answers is few holds room ordered =
+    ordered-again ids table before after number k only bytes (sym answers ∙ is) few holds room ordered
 
 pub number-after-order-of-calls : NumberAfterOrder
-number-after-order-of-calls table before after number k r bytes none ordered high answers =
-    answers ∙ (ap trailNumberAnswer (written table number before after k ordered bytes none high) ∙ numbered table number before after k ordered bytes none high)
+number-after-order-of-calls table before after number k r bytes none ordered high answers = (
+  answers ∙ (ap trailNumberAnswer (written table number before after k ordered bytes none high) ∙ numbered table number before after k ordered bytes none high),
+  marked-alike table number before after k ordered bytes none high,
+)

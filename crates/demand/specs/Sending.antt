@@ -2,7 +2,7 @@
 -- `rcds_sender_setup` as that setup left them. Document 01: "A sender's own opening is one written over the string its accepted setup took,
 -- with the tables as that setup left them. Its messages written so, with its state unaltered too, are the genuine ones."
 use mathlib.Core.List.{List}
-use mathlib.Core.Option.{some}
+use mathlib.Core.Option.{Option, some}
 use mathlib.Core.Path.{_≡_}
 use Prim.Native.Nat.{ℕ, _-_, _^_, _≤_, _<_}
 use lib.ListN.{take}
@@ -57,5 +57,5 @@ GenuineOfCalls =
 abbrev pub OneCompositionOfCalls : Type 0
 OneCompositionOfCalls =
     (σ : Settings) (string query query′ reply reply′ : List ℕ) → RepliesTo σ string query reply → RepliesTo σ string query′ reply′
-    → (session l i x y : ℕ) (refs refs′ : List Ref) → parse reply ≡ some (composition session l i x refs)
+    → (session l i : ℕ) (x y : Option ℕ) (refs refs′ : List Ref) → parse reply ≡ some (composition session l i x refs)
     → parse reply′ ≡ some (composition session l i y refs′) → reply ≡ reply′

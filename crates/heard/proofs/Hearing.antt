@@ -14,7 +14,7 @@ use Rattle.shingle.proofs.PairOrder.{and-true}
 use Rattle.message.specs.Words.{linkWords, referenceWord}
 use Rattle.message.specs.Fields.{valuesOf, manyFrom, textFrom}
 use Rattle.message.specs.Messages.{Msg, openingQuery, nodeQuery, opening, composition, literal, typeOf, cellValues, parse}
-use Rattle.message.specs.Reading.{Reads}
+use Rattle.message.specs.Reading.{statedBy, Reads}
 use Rattle.message.specs.Parts.{cellsIn, referencesIn, bytesIn}
 use Rattle.message.specs.declared.Message.{Message}
 use Rattle.message.specs.declared.Message.the-variants.{Bad, OpeningQuery, NodeQuery, Opening, Composition, Literal, NoNode}
@@ -39,7 +39,7 @@ module _ (message : List ℕ) where
   not-formed (OpeningQuery n) r e = absurd (omega (arith, e))
   not-formed (NodeQuery n l i) r e = absurd (omega (arith, e))
   not-formed (Opening n rule w p L M q len root at) r e = absurd (omega (arith, e))
-  not-formed (Composition n l i x at count) r e = absurd (omega (arith, e))
+  not-formed (Composition n l i numbered x at count) r e = absurd (omega (arith, e))
   not-formed (Literal n l i at count) r e = absurd (omega (arith, e))
   not-formed (NoNode n l i) r e = absurd (omega (arith, e))
 
@@ -52,7 +52,7 @@ module _ (message : List ℕ) where
   formed (OpeningQuery n) r fails = known _ (r .message) .1
   formed (NodeQuery n l i) r fails = known _ (r .message) .1
   formed (Opening n rule w p L M q len root at) r fails = known _ (r .message) .1
-  formed (Composition n l i x at count) r fails = known _ (r .message) .1
+  formed (Composition n l i numbered x at count) r fails = known _ (r .message) .1
   formed (Literal n l i at count) r fails = known _ (r .message) .1
   formed (NoNode n l i) r fails = known _ (r .message) .1
 
@@ -70,7 +70,7 @@ module _ (message : List ℕ) where
       let m = opening n rule w p L M q len root in
       let is = known (m (valuesOf (cellValues q) (drop at (linkWords message)))) (r .message) in
       record { session = n; is = sym (r .message) ∙ ap (λ (x : Msg). some (m (cellsIn x))) (sym (is .0)) }
-  opening-heard (Composition n l i x at count) r e = absurd (omega (arith, e))
+  opening-heard (Composition n l i numbered x at count) r e = absurd (omega (arith, e))
   opening-heard (Literal n l i at count) r e = absurd (omega (arith, e))
   opening-heard (NoNode n l i) r e = absurd (omega (arith, e))
 
@@ -80,13 +80,13 @@ module _ (message : List ℕ) where
   node-heard (OpeningQuery n) r low high = absurd (omega (arith, high))
   node-heard (NodeQuery n l i) r low high = absurd (omega (arith, high))
   node-heard (Opening n rule w p L M q len root at) r low high = absurd (omega (arith, low))
-  node-heard (Composition n l i x at count) r low high =
-      let is = known (composition n l i x (manyFrom referenceWord (drop at (linkWords message)))) (r .message) .0 in
+  node-heard (Composition n l i numbered x at count) r low high =
+      let is = known (composition n l i (statedBy numbered x) (manyFrom referenceWord (drop at (linkWords message)))) (r .message) .0 in
       record {
         low = low;
         high = high;
         composed = λ e. (
-          sym (r .message) ∙ ap (λ (m : Msg). some (composition n l i x (referencesIn m))) (sym is),
+          sym (r .message) ∙ ap (λ (m : Msg). some (composition n l i (statedBy numbered x) (referencesIn m))) (sym is),
           r .counted ∙ ap (λ (m : Msg). length (referencesIn m)) (sym is),
         );
         bytes = λ e. absurd (omega (arith, e));
@@ -121,7 +121,7 @@ module _ (message : List ℕ) where
   fits-opening (OpeningQuery n) r session fails = ap (fits (openingQuery session)) (known _ (r .message) .0) ∙ (and-false (eqb n session) ∙ sym (and-false (eqb 0 session)))
   fits-opening (NodeQuery n l i) r session fails = ap (fits (openingQuery session)) (known _ (r .message) .0) ∙ (and-false (eqb n session) ∙ sym (and-false (eqb 0 session)))
   fits-opening (Opening n rule w p L M q len root at) r session fails = ap (fits (openingQuery session)) (known _ (r .message) .0)
-  fits-opening (Composition n l i x at count) r session fails = ap (fits (openingQuery session)) (known _ (r .message) .0)
+  fits-opening (Composition n l i numbered x at count) r session fails = ap (fits (openingQuery session)) (known _ (r .message) .0)
   fits-opening (Literal n l i at count) r session fails = ap (fits (openingQuery session)) (known _ (r .message) .0)
   fits-opening (NoNode n l i) r session fails = ap (fits (openingQuery session)) (known _ (r .message) .0)
 
@@ -134,7 +134,7 @@ module _ (message : List ℕ) where
   fits-node (OpeningQuery n) r session level id fails = ap (fits (nodeQuery session level id)) (known _ (r .message) .0) ∙ (and-false (eqb n session) ∙ sym (and-false (eqb 0 session)))
   fits-node (NodeQuery n l i) r session level id fails = ap (fits (nodeQuery session level id)) (known _ (r .message) .0) ∙ (and-false (eqb n session) ∙ sym (and-false (eqb 0 session)))
   fits-node (Opening n rule w p L M q len root at) r session level id fails = ap (fits (nodeQuery session level id)) (known _ (r .message) .0)
-  fits-node (Composition n l i x at count) r session level id fails = ap (fits (nodeQuery session level id)) (known _ (r .message) .0)
+  fits-node (Composition n l i numbered x at count) r session level id fails = ap (fits (nodeQuery session level id)) (known _ (r .message) .0)
   fits-node (Literal n l i at count) r session level id fails = ap (fits (nodeQuery session level id)) (known _ (r .message) .0)
   fits-node (NoNode n l i) r session level id fails = ap (fits (nodeQuery session level id)) (known _ (r .message) .0)
 

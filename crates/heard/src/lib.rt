@@ -4,13 +4,14 @@ ghost use Rattle.heard.specs.Heard.{said, saidBy, announced, announcedOf
 use message::Message;
 use state::Outstanding;
 
-// Kind 3 to 6 is the message's type; 10 is a message that is not well formed, 11 a query. Of a node reply the level and the id, the
-// number of a composition, and how many references or bytes it has.
+// Kind 3 to 6 is the message's type; 10 is a message that is not well formed, 11 a query. Of a node reply the level and the id, whether a
+// composition is `numbered` and then its number, and how many references or bytes it has.
 pub struct Said {
     pub kind: u64,
     pub session: u64,
     pub level: u64,
     pub id: u64,
+    pub numbered: bool,
     pub number: u64,
     pub count: usize,
 }
@@ -27,14 +28,23 @@ pub struct Announced {
     pub root: u64,
 }
 
-fn saying(kind: u64, session: u64, level: u64, id: u64, number: u64, count: usize) -> Said
-    ensures { λ r. ⌜ r ≡ said kind session level id number count ⌝ }
+fn saying(
+    kind: u64,
+    session: u64,
+    level: u64,
+    id: u64,
+    numbered: bool,
+    number: u64,
+    count: usize,
+) -> Said
+    ensures { λ r. ⌜ r ≡ said kind session level id numbered number count ⌝ }
 {
     Said {
         kind,
         session,
         level,
         id,
+        numbered,
         number,
         count,
     }
@@ -45,26 +55,27 @@ pub fn said_by(m: Message) -> Said
     ensures { λ r. ⌜ r ≡ saidBy m ⌝ }
 {
     match m {
-        Message::Bad => saying(10, 0, 0, 0, 0, 0),
-        Message::OpeningQuery { .. } => saying(11, 0, 0, 0, 0, 0),
-        Message::NodeQuery { .. } => saying(11, 0, 0, 0, 0, 0),
-        Message::Opening { session, .. } => saying(3, session, 0, 0, 0, 0),
+        Message::Bad => saying(10, 0, 0, 0, false, 0, 0),
+        Message::OpeningQuery { .. } => saying(11, 0, 0, 0, false, 0, 0),
+        Message::NodeQuery { .. } => saying(11, 0, 0, 0, false, 0, 0),
+        Message::Opening { session, .. } => saying(3, session, 0, 0, false, 0, 0),
         Message::Composition {
             session,
             level,
             id,
+            numbered,
             number,
             count,
             ..
-        } => saying(4, session, level, id, number, count),
+        } => saying(4, session, level, id, numbered, number, count),
         Message::Literal {
             session,
             level,
             id,
             count,
             ..
-        } => saying(5, session, level, id, 0, count),
-        Message::NoNode { session, level, id } => saying(6, session, level, id, 0, 0),
+        } => saying(5, session, level, id, false, 0, count),
+        Message::NoNode { session, level, id } => saying(6, session, level, id, false, 0, 0),
     }
 }
 

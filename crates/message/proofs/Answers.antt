@@ -1,5 +1,5 @@
 -- Laws of the reader's answers: for each way that reading a message can go, what it answers is what `parse` says.
-use mathlib.Core.Bool.{Bool, true, false}
+use mathlib.Core.Bool.{Bool, true, false, cond, _&&_}
 use mathlib.Core.List.{List}
 use mathlib.Core.Option.{none, some}
 use mathlib.Core.Path.{_≡_, refl, sym, ap, _∙_}
@@ -12,9 +12,9 @@ use Rattle.message.specs.Fields.{read, one, number, value, valuesAre}
 use Rattle.message.specs.Messages.{typeOf, cellValues, bodyOf, parseWords, parse}
 use Rattle.message.specs.declared.Message.{Message}
 use Rattle.message.specs.declared.Message.the-variants.{Bad, OpeningQuery, NodeQuery, Opening, Composition, Literal, NoNode}
-use Rattle.message.specs.Reading.{meant, Placed, Counted, Reads, ReadsBody, numbersAre, References, Texts, pairIs, openingAt, numberOf, typeAnswer}
+use Rattle.message.specs.Reading.{referencesAt, meant, Placed, Counted, Reads, ReadsBody, numbersAre, References, Texts, pairIs, openingAt, numberOf, typeAnswer}
 use Rattle.message.proofs.Words.{rest-below}
-use Rattle.message.proofs.Reading.{opening-query-form, node-query-form, no-node-form, literal-form, composition-form, opening-form}
+use Rattle.message.proofs.Reading.{opening-query-form, node-query-form, no-node-form, literal-form, composed, referencesEnd, composition-form, opening-form}
 
 module _ (s : List ℕ) (n : ℕ) where
   pub bad : (t : ℕ) → bodyOf (length (linkWords s)) n t (drop 1 (linkWords s)) ≡ none → ReadsBody s n t Bad
@@ -48,9 +48,6 @@ module _ (s : List ℕ) (n : ℕ) where
     pub no-node-no-end : endsAt 5 ≡ false → ReadsBody s n 6 Bad
     no-node-no-end e = bad 6 (no-node-form (linkWords s) (length (linkWords s)) n ∙ rw (p, e))
 
-    pub composition-no-number : number .is (drop 5 (linkWords s)) ≡ false → ReadsBody s n 4 Bad
-    composition-no-number x = bad 4 (composition-form (linkWords s) (length (linkWords s)) n ∙ rw (p, x))
-
     module _ (l i : ℕ) (is-l : l ≡ number .of (drop 1 (linkWords s))) (is-i : i ≡ value .of (drop 2 (linkWords s))) where
       pub node-query-read : endsAt 5 ≡ true → ReadsBody s n 2 (NodeQuery n l i)
       node-query-read e = record { message = sym (node-query-form (linkWords s) (length (linkWords s)) n ∙ rw (p, e, is-l, is-i)); placed = tt; counted = tt }
@@ -67,20 +64,27 @@ module _ (s : List ℕ) (n : ℕ) where
       literal-read l i is-l is-i e =
           record { message = sym (literal-form (linkWords s) (length (linkWords s)) n ∙ rw (p, texts .after, e, is-l, is-i)); placed = refl; counted = texts .count-is }
 
-    module _ (x : number .is (drop 5 (linkWords s)) ≡ true) (sound : Bool) (end : ℕ) (refs : References (linkWords s) 6 sound end) where
+    module _ (numbered : Bool) (is-numbered : numbered ≡ number .is (drop 5 (linkWords s))) (at : ℕ) (is-at : at ≡ referencesAt numbered)
+        (sound : Bool) (end : ℕ) (refs : References (linkWords s) at sound end) where
+      -- A composition by its places.
+      form : bodyOf (length (linkWords s)) n 4 (drop 1 (linkWords s))
+          ≡ cond (pairIs (linkWords s) && referencesEnd (linkWords s) (length (linkWords s)) n at)
+          (some (composed (linkWords s) (length (linkWords s)) n numbered at)) none
+      form = composition-form (linkWords s) (length (linkWords s)) n ∙ rw (← is-numbered, ← is-at)
+
       pub composition-falls : sound ≡ false → ReadsBody s n 4 Bad
-      composition-falls o = bad 4 (composition-form (linkWords s) (length (linkWords s)) n ∙ rw (p, x, sym (refs .rises) ∙ o))
+      composition-falls o = bad 4 (form ∙ rw (p, sym (refs .rises) ∙ o))
 
       pub composition-no-end : sound ≡ true → endsAt end ≡ false → ReadsBody s n 4 Bad
-      composition-no-end o e = bad 4 (composition-form (linkWords s) (length (linkWords s)) n ∙ rw (p, x, sym (refs .rises) ∙ o, refs .after o, e))
+      composition-no-end o e = bad 4 (form ∙ rw (p, sym (refs .rises) ∙ o, refs .after o, e))
 
-      pub composition-read : (l i y : ℕ) → l ≡ number .of (drop 1 (linkWords s)) → i ≡ value .of (drop 2 (linkWords s))
-          → y ≡ number .of (drop 5 (linkWords s)) → sound ≡ true → endsAt end ≡ true → ReadsBody s n 4 (Composition n l i y 6 (end - 6))
-      composition-read l i y is-l is-i is-y o e =
+      pub composition-read : (l i x : ℕ) → l ≡ number .of (drop 1 (linkWords s)) → i ≡ value .of (drop 2 (linkWords s))
+          → x ≡ number .of (drop 5 (linkWords s)) → sound ≡ true → endsAt end ≡ true → ReadsBody s n 4 (Composition n l i numbered x at (end - at))
+      composition-read l i x is-l is-i is-x o e =
           let c = refs .count o in
           record {
-            message = sym (composition-form (linkWords s) (length (linkWords s)) n ∙ rw (p, x, sym (refs .rises) ∙ o, refs .after o, e, is-l, is-i, is-y));
-            placed = refl;
+            message = sym (form ∙ rw (p, sym (refs .rises) ∙ o, refs .after o, e, is-l, is-i, is-x));
+            placed = is-at;
             counted = omega arith;
           }
 
@@ -131,7 +135,7 @@ number-meant ws Bad = refl
 number-meant ws (OpeningQuery n) = refl
 number-meant ws (NodeQuery n l i) = refl
 number-meant ws (Opening n rule w p L M q len root at) = refl
-number-meant ws (Composition n l i x at count) = refl
+number-meant ws (Composition n l i numbered x at count) = refl
 number-meant ws (Literal n l i at count) = refl
 number-meant ws (NoNode n l i) = refl
 

@@ -9,8 +9,8 @@ use native.Mathlib.Omega.{arith}
 use borrow.Author.Tests.{eqb-true, eq-eqb, ne-eqb, ltb-true, lt-ltb}
 use lib.Dec.{ltb, eqb, lit<}
 use lib.ListN.{length, getD, drop}
-use Rattle.message.specs.Words.{wordOf, kindOf, restOf, withKind, Word, plain, partWord, headWord, referenceWord, bytesWord, manyOf, topByte, middleByte, lowByte, carriesThree, carriesTwo, carriesOne}
-use Rattle.message.specs.Fields.{Field, read, one, number, head, partsTest, partsValue, value, valuesAre, valuesOf, valuesAfter, valuesTo, values, Every, manyFrom, manyAfter, manyTo, many, only, rising, references, textFrom, textAfter, textTo, carries, text}
+use Rattle.message.specs.Words.{wordOf, kindOf, restOf, withKind, Word, plain, numberWord, partWord, headWord, referenceWord, bytesWord, manyOf, topByte, middleByte, lowByte, carriesThree, carriesTwo, carriesOne}
+use Rattle.message.specs.Fields.{Field, read, one, number, head, partsTest, partsValue, value, valuesAre, valuesOf, valuesAfter, valuesTo, values, Every, manyFrom, manyAfter, manyTo, many, maybeOf, maybeAfter, maybeTo, MaybeFits, maybe, maybeNumber, only, rising, references, textFrom, textAfter, textTo, carries, text}
 use Rattle.message.proofs.Words.{Bytes, Small, every-append, and-left, and-right, and-both, kind-with, rest-with, with-rest, with-small, with-mod, rest-below, LawfulWord, plain-lawful, head-lawful, reference-lawful}
 
 pub record Lawful {A : Type 0} (F : Field A) : Type 0 where
@@ -339,6 +339,69 @@ module _ {A : Type 0} (W : Word A) (L : LawfulWord W) where
         fits = λ ws e. many-fit ws;
         small-after = many-small-after;
       }
+
+-- A word that may be left out.
+module _ {A : Type 0} (W : Word A) (L : LawfulWord W) where
+  maybe-small : (a : Option A) → Small (maybeTo W a)
+  unfolding maybeTo
+  maybe-small none = tt
+  maybe-small (some a) = (L .small a, tt)
+
+  maybe-of-to : (a : Option A) (ws : List ℕ) → MaybeFits W a → W .is (getD ws 0 0) ≡ false → maybeOf W (maybeTo W a ++ ws) ≡ a
+  unfolding maybeOf maybeTo MaybeFits
+  maybe-of-to none ws f s = rw s refl
+  maybe-of-to (some a) ws f s = rw (L .is-to a f, L .of-to a f) refl
+
+  maybe-after-to : (a : Option A) (ws : List ℕ) → MaybeFits W a → W .is (getD ws 0 0) ≡ false → maybeAfter W (maybeTo W a ++ ws) ≡ ws
+  unfolding maybeAfter maybeTo MaybeFits
+  maybe-after-to none ws f s = rw s refl
+  maybe-after-to (some a) ws f s = rw (L .is-to a f) refl
+
+  maybe-to-of : (ws : List ℕ) → Small ws → maybeTo W (maybeOf W ws) ++ maybeAfter W ws ≡ ws
+  unfolding maybeOf maybeAfter maybeTo
+  maybe-to-of [] s = rw (L .no-zero) refl
+  maybe-to-of (w ∷ ws) s = go (W .is w) refl
+    where
+      go : (t : Bool) → W .is w ≡ t → maybeTo W (cond t (some (W .of w)) none) ++ cond t ws (w ∷ ws) ≡ w ∷ ws
+      go true e = ap (λ (v : ℕ). v ∷ ws) (L .to-of w (s .0) e)
+      go false e = refl
+
+  maybe-fits : (ws : List ℕ) → MaybeFits W (maybeOf W ws)
+  unfolding maybeOf MaybeFits
+  maybe-fits ws = go (W .is (getD ws 0 0)) refl
+    where
+      go : (t : Bool) → W .is (getD ws 0 0) ≡ t → MaybeFits W (cond t (some (W .of (getD ws 0 0))) none)
+      go true e = L .fits (getD ws 0 0) e
+      go false e = tt
+
+  maybe-small-after : (ws : List ℕ) → Small ws → Small (maybeAfter W ws)
+  unfolding maybeAfter
+  maybe-small-after [] s = go (W .is 0)
+    where
+      go : (t : Bool) → Small (cond t (drop 1 []) [])
+      go true = tt
+      go false = tt
+  maybe-small-after (w ∷ ws) s = go (W .is w)
+    where
+      go : (t : Bool) → Small (cond t ws (w ∷ ws))
+      go true = s .1
+      go false = s
+
+  pub maybe-lawful : Lawful (maybe W)
+  unfolding maybe
+  maybe-lawful =
+      record {
+        small = maybe-small;
+        is-to = λ a ws f s. refl;
+        of-to = maybe-of-to;
+        after-to = maybe-after-to;
+        to-of = λ ws s e. maybe-to-of ws s;
+        fits = λ ws e. maybe-fits ws;
+        small-after = maybe-small-after;
+      }
+
+pub maybe-number-lawful : Lawful maybeNumber
+maybe-number-lawful = maybe-lawful numberWord (plain-lawful 2 (lit< tt) (lit< tt))
 
 -- A field of which only some values are taken.
 module _ {A : Type 0} (test : A → Bool) (F : Field A) (L : Lawful F) where

@@ -9,11 +9,11 @@ use native.Mathlib.Omega.{arith}
 use borrow.Author.Tests.{eqb-true, eq-eqb}
 use lib.Dec.{eqb, lit<}
 use lib.ListN.{length, length-append}
-use Rattle.message.specs.Words.{linkWords, linkBytes, kindOf, restOf, withKind, Head, headWord, Ref, referenceWord, endWord, isEnd, carriesThree, carriesTwo, carriesOne}
-use Rattle.message.specs.Fields.{Field, read, one, number, head, value, values, many, only, rising, references, carries, text}
+use Rattle.message.specs.Words.{linkWords, linkBytes, kindOf, restOf, withKind, plain, Head, headWord, Ref, referenceWord, endWord, isEnd, carriesThree, carriesTwo, carriesOne}
+use Rattle.message.specs.Fields.{Field, read, one, number, head, value, values, many, manyTo, maybe, maybeNumber, only, rising, references, carries, text}
 use Rattle.message.specs.Messages.{Msg, openingQuery, nodeQuery, opening, composition, literal, noNode, cellValues, headed, wordsThen, sizeOf, encodeWords, encode, finish, bodyOf, parseWords, parse, Parts, Valid}
 use Rattle.message.proofs.Words.{Bytes, Small, every-append, and-left, and-right, kind-with, rest-with, with-rest, with-small, rest-below, length-bytes, words-bytes, bytes-words, small-words, reference-lawful}
-use Rattle.message.proofs.Fields.{Lawful, read-to, was-taken, taken, number-lawful, head-field-lawful, value-lawful, values-lawful, many-lawful, only-refused, references-lawful, text-lawful}
+use Rattle.message.proofs.Fields.{Lawful, read-to, was-taken, taken, number-lawful, head-field-lawful, value-lawful, values-lawful, many-lawful, maybe-number-lawful, only-refused, references-lawful, text-lawful}
 use Rattle.message.proofs.Rising.{falling}
 
 -- How long the words of a message are, whatever follows them.
@@ -40,6 +40,12 @@ finish-to c m h =
 end-stops-references : (c : ℕ) → references .Stops (endWord c ∷ [])
 unfolding only many referenceWord endWord
 end-stops-references c = rw (kind-with 6 c)
+
+-- A reference and the end are no numbers.
+references-stop-number : (refs : List Ref) (c : ℕ) → maybeNumber .Stops (references .to refs ++ (endWord c ∷ []))
+unfolding maybe only many manyTo referenceWord plain endWord
+references-stop-number [] c = rw (kind-with 6 c)
+references-stop-number (r ∷ refs) c = rw (kind-with 4 _)
 
 end-stops-text : (c : ℕ) → text .Stops (endWord c ∷ [])
 unfolding text carries carriesThree carriesTwo carriesOne endWord
@@ -92,7 +98,8 @@ parse-then (composition n l i x refs) c p h e =
     headed-read 4 n c _ (lit< tt) (p .0) e
     ∙ (number-read l _ _ (p .1)
     ∙ (value-read i _ _ (p .2)
-    ∙ (number-read x _ _ (p .3) ∙ (read-to references-lawful refs _ _ (p .4) (end-stops-references c) ∙ finish-to c _ h))))
+    ∙ (read-to maybe-number-lawful x _ _ (p .3) (references-stop-number refs c)
+    ∙ (read-to references-lawful refs _ _ (p .4) (end-stops-references c) ∙ finish-to c _ h))))
 parse-then (literal n l i bytes) c p h e =
     headed-read 5 n c _ (lit< tt) (p .0) e
     ∙ (number-read l _ _ (p .1) ∙ (value-read i _ _ (p .2) ∙ (read-to text-lawful bytes _ _ (p .3) (end-stops-text c) ∙ finish-to c _ h)))
@@ -125,7 +132,7 @@ small-then (opening n rule w p L M q len root cells) ws s =
     (small-to number-lawful q _
     (small-to number-lawful len _ (small-to value-lawful root _ (small-to (values-lawful (cellValues q)) cells _ s)))))))))
 small-then (composition n l i x refs) ws s =
-    headed-small 4 n _ (small-to number-lawful l _ (small-to value-lawful i _ (small-to number-lawful x _ (small-to references-lawful refs _ s))))
+    headed-small 4 n _ (small-to number-lawful l _ (small-to value-lawful i _ (small-to maybe-number-lawful x _ (small-to references-lawful refs _ s))))
 small-then (literal n l i bytes) ws s = headed-small 5 n _ (small-to number-lawful l _ (small-to value-lawful i _ (small-to text-lawful bytes _ s)))
 small-then (noNode n l i) ws s = headed-small 6 n _ (small-to number-lawful l _ (small-to value-lawful i _ s))
 
@@ -154,7 +161,7 @@ parse-encode m v = parse-of-words m ∙ parse-encode-words m v
 
 -- Document 02, request 2: "A sender of the old kind is met by number 10 when its order falls." A composition with its parts within their fields is
 -- read as no message if somewhere in it, next to it or later, a reference follows one of the same or a higher index.
-module _ (n l i x : ℕ) (session : n < 2 ^ 24) (level : number .Fits l) (id : value .Fits i) (trail : number .Fits x) where
+module _ (n l i : ℕ) (x : Option ℕ) (session : n < 2 ^ 24) (level : number .Fits l) (id : value .Fits i) (trail : maybeNumber .Fits x) where
   unordered-words : (refs : List Ref) → many referenceWord .Fits refs → rising refs ≡ false → parseWords (encodeWords (composition n l i x refs)) ≡ none
   unfolding encodeWords wordsThen bodyOf
   unordered-words refs fits falls =
@@ -163,7 +170,7 @@ module _ (n l i x : ℕ) (session : n < 2 ^ 24) (level : number .Fits l) (id : v
       headed-read 4 n (sizeOf m) _ (lit< tt) session (length-encode-words m)
       ∙ (number-read l _ _ level
       ∙ (value-read i _ _ id
-      ∙ (number-read x _ _ trail
+      ∙ (read-to maybe-number-lawful x _ _ trail (references-stop-number refs (sizeOf m))
       ∙ only-refused rising (many referenceWord) (many-lawful referenceWord reference-lawful) refs _ _ fits stops falls)))
 
   pub falling-refused : (front : List Ref) (high : Ref) (between : List Ref) (low : Ref) (back : List Ref)
@@ -268,14 +275,14 @@ module _ (m : Msg) (h : Head) (c : ℕ) (ws rest : List ℕ) (small : Small rest
       done _ same (record { parts = (known, fl, fi, fb); few = few; words = headed-again 5 h _ ws t (rw (← end, p₃) p) })
 
   composition-printed : h .type ≡ 4
-      → (read number rest λ l ws. read value ws λ i ws. read number ws λ x ws. read references ws λ refs ws.
+      → (read number rest λ l ws. read value ws λ i ws. read maybeNumber ws λ x ws. read references ws λ refs ws.
       finish c (composition (h .session) l i x refs) ws)
       ≡ some m
       → Printed m c ws
   unfolding wordsThen Parts
   composition-printed t e =
       pair-printed _ e λ l i r₂ fl fi s₂ p e₂.
-      taken number-lawful r₂ _ m s₂ e₂ λ x r₃ fx s₃ p₃ e₃.
+      taken maybe-number-lawful r₂ _ m s₂ e₂ λ x r₃ fx s₃ p₃ e₃.
       taken references-lawful r₃ _ m s₃ e₃ λ refs r₄ fr s₄ p₄ e₄.
       finished c _ r₄ e₄ λ same end few.
       done _ same (record { parts = (known, fl, fi, fx, fr); few = few; words = headed-again 4 h _ ws t (rw (← end, p₄, p₃) p) })

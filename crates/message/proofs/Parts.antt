@@ -10,19 +10,19 @@ use lib.Dec.{eqb}
 use lib.ListN.{length, getD, set, take, drop, length-take, length-drop, drop-of-length-le, List·getD-eq-default}
 use lib.Seq.{take-all, take-take, take-length, getD-take, getD-drop, paste, paste-zero, paste-suc}
 use Rattle.message.specs.Words.{Word, Ref, wordOf, linkWords, restOf, referenceWord, topByte, middleByte, lowByte, carriesThree, carriesTwo, carriesOne, isEnd}
-use Rattle.message.specs.Fields.{one, head, number, value, valuesOf, manyFrom, manyAfter, rising, textFrom, textAfter}
+use Rattle.message.specs.Fields.{one, head, number, value, valuesOf, manyFrom, textFrom, textAfter}
 use Rattle.message.specs.Messages.{Msg, openingQuery, nodeQuery, composition, literal, noNode, cellValues, bodyOf, parseWords, parse}
-use Rattle.message.specs.Reading.{numbersAre, pairIs, openingAt}
-use Rattle.message.specs.Parts.{cellsIn, referencesIn, bytesIn, CellRead, ReferenceRead, threeEach, fronted, Copied}
+use Rattle.message.specs.Reading.{referencesAt, numbersAre, pairIs, openingAt}
+use Rattle.message.specs.Parts.{cellsIn, referencesIn, bytesIn, isNumbered, CellRead, ReferenceRead, threeEach, fronted, Copied}
 use Rattle.message.proofs.Words.{Bytes, length-words}
 use Rattle.message.proofs.Fields.{was-taken, went, length-values}
 use Rattle.message.proofs.Messages.{picked, none-is-none}
-use Rattle.message.proofs.Reading.{value-in, no-value-value, cellsEnd, opening-query-form, node-query-form, no-node-form, literal-form, composition-form, opening-form}
+use Rattle.message.proofs.Reading.{value-in, no-value-value, cellsEnd, composed, referencesEnd, opening-query-form, node-query-form, no-node-form, literal-form, composition-form, opening-form}
 
 -- Where the parts of a message stand.
 abbrev Placed : List ℕ → Msg → Type 0
 Placed ws m =
-    (cellsIn m ≡ valuesOf (length (cellsIn m)) (drop 11 ws)) × (referencesIn m ≡ take (length (referencesIn m)) (manyFrom referenceWord (drop 6 ws)))
+    (cellsIn m ≡ valuesOf (length (cellsIn m)) (drop 11 ws)) × (referencesIn m ≡ take (length (referencesIn m)) (manyFrom referenceWord (drop (referencesAt (isNumbered m)) ws)))
     × (bytesIn m ≡ take (length (bytesIn m)) (textFrom (drop 5 ws)))
 
 module _ (ws : List ℕ) where
@@ -35,9 +35,10 @@ module _ (ws : List ℕ) where
       let q = number .of (drop 6 ws) in
       (ap (λ (k : ℕ). valuesOf k (drop 11 ws)) (sym (length-values (cellValues q) (drop 11 ws))), refl, refl)
 
-  composition-placed : (n l i x : ℕ) → Placed ws (composition n l i x (manyFrom referenceWord (drop 6 ws)))
-  unfolding cellsIn referencesIn bytesIn valuesOf
-  composition-placed n l i x = (refl, sym (take-length (manyFrom referenceWord (drop 6 ws))), refl)
+  composition-placed : (c n : ℕ) (numbered : Bool) → Placed ws (composed ws c n numbered (referencesAt numbered))
+  unfolding cellsIn referencesIn bytesIn valuesOf isNumbered
+  composition-placed c n true = (refl, sym (take-length (manyFrom referenceWord (drop 6 ws))), refl)
+  composition-placed c n false = (refl, sym (take-length (manyFrom referenceWord (drop 5 ws))), refl)
 
   literal-placed : (n l i : ℕ) → Placed ws (literal n l i (textFrom (drop 5 ws)))
   unfolding cellsIn referencesIn bytesIn valuesOf
@@ -61,7 +62,9 @@ module _ (ws : List ℕ) where
       picked (eqb t 1) _ _ e (λ is p. found-placed m _ (isEnd c (drop 1 ws)) (sym (opening-query-form ws c n) ∙ p) (query-placed n)) λ e.
       picked (eqb t 2) _ _ e (λ is p. found-placed m _ (pairIs ws && isEnd c (drop 5 ws)) (sym (node-query-form ws c n) ∙ p) (node-placed n (number .of (drop 1 ws)) (value .of (drop 2 ws)))) λ e.
       picked (eqb t 3) _ _ e (λ is p. found-placed m _ (numbersAre ws 1 7 && (value .is (drop 8 ws) && cellsEnd ws c n)) (sym (opening-form ws c n) ∙ p) (opening-placed n)) λ e.
-      picked (eqb t 4) _ _ e (λ is p. found-placed m _ (pairIs ws && (number .is (drop 5 ws) && (rising (manyFrom referenceWord (drop 6 ws)) && isEnd c (manyAfter referenceWord (drop 6 ws))))) (sym (composition-form ws c n) ∙ p) (composition-placed n (number .of (drop 1 ws)) (value .of (drop 2 ws)) (number .of (drop 5 ws)))) λ e.
+      picked (eqb t 4) _ _ e
+      (λ is p. found-placed m _ (pairIs ws && referencesEnd ws c n (referencesAt (number .is (drop 5 ws)))) (sym (composition-form ws c n) ∙ p)
+      (composition-placed c n (number .is (drop 5 ws)))) λ e.
       picked (eqb t 5) _ _ e (λ is p. found-placed m _ (pairIs ws && isEnd c (textAfter (drop 5 ws))) (sym (literal-form ws c n) ∙ p) (literal-placed n (number .of (drop 1 ws)) (value .of (drop 2 ws)))) λ e.
       picked (eqb t 6) _ _ e (λ is p. found-placed m _ (pairIs ws && isEnd c (drop 5 ws)) (sym (no-node-form ws c n) ∙ p) (no-node-placed n (number .of (drop 1 ws)) (value .of (drop 2 ws)))) λ e.
       absurd (none-is-none e)
@@ -109,10 +112,11 @@ reference-read s at k r e =
     record {
       stands = e;
       read = λ m p is h.
-          let f = front-at (referencesIn m) (manyFrom referenceWord (drop 6 (linkWords s))) k (record { index = 0; count = 0 }) (placed s m p .1) h in
+          let from = referencesAt (isNumbered m) in
+          let f = front-at (referencesIn m) (manyFrom referenceWord (drop from (linkWords s))) k (record { index = 0; count = 0 }) (placed s m p .1) h in
           e ∙ (ap (λ (n : ℕ). referenceWord .of (getD (linkWords s) (n + k) 0)) is
-          ∙ (ap (λ (w : ℕ). referenceWord .of w) (sym (getD-drop 6 (linkWords s) k 0))
-          ∙ (sym (many-at referenceWord (record { index = 0; count = 0 }) (drop 6 (linkWords s)) k (f .0)) ∙ sym (f .1))));
+          ∙ (ap (λ (w : ℕ). referenceWord .of w) (sym (getD-drop from (linkWords s) k 0))
+          ∙ (sym (many-at referenceWord (record { index = 0; count = 0 }) (drop from (linkWords s)) k (f .0)) ∙ sym (f .1))));
     }
 
 pub no-reference : (s : List ℕ) (at k : ℕ) → length s / 4 ≤ at + k → ReferenceRead s at k (record { index = 0; count = 0 })

@@ -12,8 +12,8 @@ use lib.Dec.{leb, eqb}
 use lib.ListN.{length, getD, drop, length-drop, drop-of-length-le, List·getD-eq-default}
 use lib.Seq.{getD-drop, drop-drop, drop-cons}
 use Rattle.message.specs.Words.{Word, Ref, linkWords, kindOf, restOf, plain, referenceWord, carriesThree, carriesTwo, carriesOne, isEnd}
-use Rattle.message.specs.Fields.{Field, read, one, number, partsTest, partsValue, value, valuesAre, valuesOf, valuesAfter, values, many, manyFrom, manyAfter, only, references, rising, text, textFrom, textAfter}
-use Rattle.message.specs.Reading.{numbersAre, References, Threes, Texts, pairIs, openingAt}
+use Rattle.message.specs.Fields.{Field, read, one, number, partsTest, partsValue, value, valuesAre, valuesOf, valuesAfter, values, many, manyFrom, manyAfter, maybeOf, maybeAfter, maybe, maybeNumber, only, references, rising, text, textFrom, textAfter}
+use Rattle.message.specs.Reading.{statedBy, referencesAt, numbersAre, References, Threes, Texts, pairIs, openingAt}
 use Rattle.message.specs.Messages.{Msg, openingQuery, nodeQuery, composition, literal, noNode, cellValues, finish, bodyOf}
 use Rattle.message.proofs.Words.{length-words}
 use Rattle.message.proofs.Rising.{risingFrom, rising-from-zero}
@@ -271,6 +271,13 @@ references-then : {B : Type 0} (ws : List ℕ) (next : List Ref → List ℕ →
 unfolding read only many
 references-then ws next t y p = both-conds (rising (manyFrom referenceWord ws)) t _ y p
 
+-- Whether the number is there or not, reading goes on.
+maybe-then : {B : Type 0} (ws : List ℕ) (k : ℕ) (next : Option ℕ → List ℕ → Option B)
+    → read maybeNumber (drop k ws) next
+    ≡ next (statedBy (number .is (drop k ws)) (number .of (drop k ws))) (cond (number .is (drop k ws)) (drop 1 (drop k ws)) (drop k ws))
+unfolding read maybe maybeOf maybeAfter one
+maybe-then ws k next = refl
+
 values-then : {B : Type 0} (n : ℕ) (ws : List ℕ) (k : ℕ) (next : List ℕ → List ℕ → Option B) (t : Bool) (y : B)
     → next (valuesOf n (drop k ws)) (drop (k + n * 3) ws) ≡ cond t (some y) none
     → read (values n) (drop k ws) next ≡ cond (valuesAre n (drop k ws) && t) (some y) none
@@ -327,14 +334,28 @@ module _ (ws : List ℕ) (c n : ℕ) where
       pair-then _ (isEnd c (textAfter (drop 5 ws))) _
       (text-then (drop 5 ws) _ (isEnd c (textAfter (drop 5 ws))) (literal n (number .of (drop 1 ws)) (value .of (drop 2 ws)) (textFrom (drop 5 ws))) refl)
 
+  -- What is read of a composition whose references start at place `at`, with a trail number or without.
+  abbrev pub composed : (numbered : Bool) (at : ℕ) → Msg
+  composed numbered at =
+      composition n (number .of (drop 1 ws)) (value .of (drop 2 ws)) (statedBy numbered (number .of (drop 5 ws))) (manyFrom referenceWord (drop at ws))
+
+  abbrev pub referencesEnd : ℕ → Bool
+  referencesEnd at = rising (manyFrom referenceWord (drop at ws)) && isEnd c (manyAfter referenceWord (drop at ws))
+
+  references-at : (numbered : Bool) → cond numbered (drop 1 (drop 5 ws)) (drop 5 ws) ≡ drop (referencesAt numbered) ws
+  references-at true = drop-drop 1 5 ws
+  references-at false = refl
+
   pub composition-form : bodyOf c n 4 (drop 1 ws)
-      ≡ cond (pairIs ws && (number .is (drop 5 ws) && (rising (manyFrom referenceWord (drop 6 ws)) && isEnd c (manyAfter referenceWord (drop 6 ws)))))
-      (some (composition n (number .of (drop 1 ws)) (value .of (drop 2 ws)) (number .of (drop 5 ws)) (manyFrom referenceWord (drop 6 ws)))) none
+      ≡ cond (pairIs ws && referencesEnd (referencesAt (number .is (drop 5 ws))))
+      (some (composed (number .is (drop 5 ws)) (referencesAt (number .is (drop 5 ws))))) none
   unfolding bodyOf finish
   composition-form =
-      pair-then _ (number .is (drop 5 ws) && (rising (manyFrom referenceWord (drop 6 ws)) && isEnd c (manyAfter referenceWord (drop 6 ws)))) _
-      (number-then ws 5 _ (rising (manyFrom referenceWord (drop 6 ws)) && isEnd c (manyAfter referenceWord (drop 6 ws))) _
-      (references-then (drop 6 ws) _ (isEnd c (manyAfter referenceWord (drop 6 ws))) _ refl))
+      let numbered = number .is (drop 5 ws) in
+      pair-then _ (referencesEnd (referencesAt numbered)) (composed numbered (referencesAt numbered))
+      (maybe-then ws 5 _
+      ∙ rw (references-at numbered)
+      (references-then (drop (referencesAt numbered) ws) _ (isEnd c (manyAfter referenceWord (drop (referencesAt numbered) ws))) _ refl))
 
   abbrev pub cellsEnd : Bool
   cellsEnd =

@@ -2,7 +2,7 @@
 -- and it is printed again. A message's form is then one line of fields, read and printed in the same order.
 use mathlib.Core.Bool.{Bool, true, false, cond, _&&_, _||_}
 use mathlib.Core.List.{List, [], _∷_, _++_}
-use mathlib.Core.Option.{Option, none}
+use mathlib.Core.Option.{Option, none, some}
 use mathlib.Core.Path.{_≡_}
 use Prim.Native.Nat.{ℕ, zero, suc, _+_, _*_, _/_, _%_, _^_, _<_}
 use lib.Dec.{ltb}
@@ -114,6 +114,36 @@ many W =
       Fits = Every (W .Fits);
       Stops = λ ws. W .is (getD ws 0 0) ≡ false;
     }
+
+-- A word that may be left out: it is there if the next word is such a word.
+unfoldable pub maybeOf : {A : Type 0} → Word A → List ℕ → Option A
+maybeOf W ws = cond (W .is (getD ws 0 0)) (some (W .of (getD ws 0 0))) none
+
+unfoldable pub maybeAfter : {A : Type 0} → Word A → List ℕ → List ℕ
+maybeAfter W ws = cond (W .is (getD ws 0 0)) (drop 1 ws) ws
+
+unfoldable pub maybeTo : {A : Type 0} → Word A → Option A → List ℕ
+maybeTo W none = []
+maybeTo W (some a) = W .to a ∷ []
+
+unfoldable pub MaybeFits : {A : Type 0} → Word A → Option A → Type 0
+MaybeFits W none = Unit {0}
+MaybeFits W (some a) = W .Fits a
+
+unfoldable pub maybe : {A : Type 0} → Word A → Field (Option A)
+maybe W =
+    record {
+      is = λ ws. true;
+      of = maybeOf W;
+      after = maybeAfter W;
+      to = maybeTo W;
+      Fits = MaybeFits W;
+      Stops = λ ws. W .is (getD ws 0 0) ≡ false;
+    }
+
+-- Document 02, request 5: the trail number of a composition is left out where it is not needed.
+abbrev pub maybeNumber : Field (Option ℕ)
+maybeNumber = maybe numberWord
 
 -- A field of which only some values are taken.
 unfoldable pub only : {A : Type 0} → (A → Bool) → Field A → Field A

@@ -8,14 +8,15 @@ use Prim.Native.Nat.{ℕ, _+_, _*_, _%_, _^_, _<_}
 use lib.Dec.{eqb}
 use lib.ListN.{length}
 use Rattle.message.specs.Words.{linkWords, linkBytes, Ref, endWord, isEnd}
-use Rattle.message.specs.Fields.{read, head, number, value, values, references, text}
+use Rattle.message.specs.Fields.{read, head, number, value, values, maybeNumber, references, text}
 
--- The six types, with the session first. An opening's cells are given as their values in order, five for each cell.
+-- The six types, with the session first. An opening's cells are given as their values in order, five for each cell. A composition's trail number
+-- may be left out.
 pub data Msg : Type 0 where
   openingQuery : (session : ℕ) → Msg
   nodeQuery : (session level id : ℕ) → Msg
   opening : (session rule w p L M q len root : ℕ) (cells : List ℕ) → Msg
-  composition : (session level id trail : ℕ) (refs : List Ref) → Msg
+  composition : (session level id : ℕ) (trail : Option ℕ) (refs : List Ref) → Msg
   literal : (session level id : ℕ) (bytes : List ℕ) → Msg
   noNode : (session level id : ℕ) → Msg
 
@@ -39,7 +40,8 @@ headed t n ws = head .to (record { type = t; session = n }) ++ ws
 -- The words of a message up to its end, and then `tail`. "Types, between head and end: 1 opening query, empty; 2 node query: level, id;
 -- 3 opening: rule (the number 1), w, p, L, M, q, string length, root id, cells in order with five values each; 4 composition: level, id,
 -- trail number, references in any order, each index once; 5 literal: level, id, bytes; 6 none: level, id." The order is no longer any: document 02,
--- request 2, "References now rise by index."
+-- request 2, "References now rise by index." Nor is the number always there: request 5, "A composition whose trail is the only one omits the number
+-- word, and one with others carries it."
 unfoldable pub wordsThen : Msg → List ℕ → List ℕ
 wordsThen (openingQuery n) tail = headed 1 n tail
 wordsThen (nodeQuery n l i) tail = headed 2 n (number .to l ++ (value .to i ++ tail))
@@ -47,7 +49,7 @@ wordsThen (opening n rule w p L M q len root cells) tail =
     headed 3 n
     (number .to rule ++ (number .to w ++ (number .to p ++ (number .to L ++ (number .to M ++ (number .to q ++ (number .to len
     ++ (value .to root ++ (values (cellValues q) .to cells ++ tail)))))))))
-wordsThen (composition n l i x refs) tail = headed 4 n (number .to l ++ (value .to i ++ (number .to x ++ (references .to refs ++ tail))))
+wordsThen (composition n l i x refs) tail = headed 4 n (number .to l ++ (value .to i ++ (maybeNumber .to x ++ (references .to refs ++ tail))))
 wordsThen (literal n l i bytes) tail = headed 5 n (number .to l ++ (value .to i ++ (text .to bytes ++ tail)))
 wordsThen (noNode n l i) tail = headed 6 n (number .to l ++ (value .to i ++ tail))
 
@@ -76,7 +78,7 @@ bodyOf count n t ws =
     read number ws λ len ws. read value ws λ root ws. read (values (cellValues q)) ws λ cells ws.
     finish count (opening n rule w p L M q len root cells) ws)
     (cond (eqb t 4)
-    (read number ws λ l ws. read value ws λ i ws. read number ws λ x ws. read references ws λ refs ws. finish count (composition n l i x refs) ws)
+    (read number ws λ l ws. read value ws λ i ws. read maybeNumber ws λ x ws. read references ws λ refs ws. finish count (composition n l i x refs) ws)
     (cond (eqb t 5) (read number ws λ l ws. read value ws λ i ws. read text ws λ bytes ws. finish count (literal n l i bytes) ws)
     (cond (eqb t 6) (read number ws λ l ws. read value ws λ i ws. finish count (noNode n l i) ws) none)))))
 
@@ -94,7 +96,7 @@ Parts (nodeQuery n l i) = (n < 2 ^ 24) × number .Fits l × value .Fits i
 Parts (opening n rule w p L M q len root cells) =
     (n < 2 ^ 24) × number .Fits rule × number .Fits w × number .Fits p × number .Fits L × number .Fits M × number .Fits q × number .Fits len
     × value .Fits root × values (cellValues q) .Fits cells
-Parts (composition n l i x refs) = (n < 2 ^ 24) × number .Fits l × value .Fits i × number .Fits x × references .Fits refs
+Parts (composition n l i x refs) = (n < 2 ^ 24) × number .Fits l × value .Fits i × maybeNumber .Fits x × references .Fits refs
 Parts (literal n l i bytes) = (n < 2 ^ 24) × number .Fits l × value .Fits i × text .Fits bytes
 Parts (noNode n l i) = (n < 2 ^ 24) × number .Fits l × value .Fits i
 

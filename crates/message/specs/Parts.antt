@@ -1,13 +1,15 @@
 -- The cells, references and bytes of a message that was read, one by one. They stand where the reader's answer says: an opening's cells from
--- word 11 on, a composition's references from word 6 on, a literal's bytes from word 5 on.
+-- word 11 on, a composition's references from word 6 on, or from word 5 on without a trail number, a literal's bytes from word 5 on.
+use mathlib.Core.Bool.{Bool, true, false}
 use mathlib.Core.List.{List, [], _∷_, _++_}
-use mathlib.Core.Option.{some}
+use mathlib.Core.Option.{none, some}
 use mathlib.Core.Path.{_≡_}
 use Prim.Native.Nat.{ℕ, _+_, _*_, _≤_, _<_}
 use lib.ListN.{length, getD, take, drop}
 use Rattle.message.specs.Words.{linkWords, Ref, referenceWord, topByte, middleByte, lowByte}
 use Rattle.message.specs.Fields.{value}
 use Rattle.message.specs.Messages.{Msg, openingQuery, nodeQuery, opening, composition, literal, noNode, parse}
+use Rattle.message.specs.Reading.{referencesAt}
 
 -- A message's cells, references and bytes; none for a type that has none.
 unfoldable pub cellsIn : Msg → List ℕ
@@ -34,6 +36,16 @@ bytesIn (composition n l i x refs) = []
 bytesIn (literal n l i bytes) = bytes
 bytesIn (noNode n l i) = []
 
+-- Whether a message carries a trail number.
+unfoldable pub isNumbered : Msg → Bool
+isNumbered (openingQuery n) = false
+isNumbered (nodeQuery n l i) = false
+isNumbered (opening n rule w p L M q len root cells) = false
+isNumbered (composition n l i none refs) = false
+isNumbered (composition n l i (some x) refs) = true
+isNumbered (literal n l i bytes) = false
+isNumbered (noNode n l i) = false
+
 -- Value k of the cells that start at word `at`: of any bytes what stands there, and of an opening its cells' value k.
 pub record CellRead (s : List ℕ) (at k r : ℕ) : Type 0 where
   pub stands : r ≡ value .of (drop (at + k * 3) (linkWords s))
@@ -42,7 +54,7 @@ pub record CellRead (s : List ℕ) (at k r : ℕ) : Type 0 where
 -- Reference k of those that start at word `at`.
 pub record ReferenceRead (s : List ℕ) (at k : ℕ) (r : Ref) : Type 0 where
   pub stands : r ≡ referenceWord .of (getD (linkWords s) (at + k) 0)
-  pub read : (m : Msg) → parse s ≡ some m → at ≡ 6 → k < length (referencesIn m) → r ≡ getD (referencesIn m) k (record { index = 0; count = 0 })
+  pub read : (m : Msg) → parse s ≡ some m → at ≡ referencesAt (isNumbered m) → k < length (referencesIn m) → r ≡ getD (referencesIn m) k (record { index = 0; count = 0 })
 
 -- The three bytes of each word.
 unfoldable pub threeEach : List ℕ → List ℕ

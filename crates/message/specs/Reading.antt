@@ -1,5 +1,5 @@
 -- What the reader answers, said by `parse`: which message its cases stand for, over the words of the bytes that were read.
-use mathlib.Core.Bool.{Bool, true, _&&_}
+use mathlib.Core.Bool.{Bool, true, cond, _&&_}
 use mathlib.Core.List.{List}
 use mathlib.Core.Option.{Option, none, some}
 use mathlib.Core.Path.{_≡_}
@@ -11,24 +11,32 @@ use Rattle.message.specs.Messages.{Msg, openingQuery, nodeQuery, opening
 use Rattle.message.specs.declared.Message.{Message}
 use Rattle.message.specs.declared.Message.the-variants.{Bad, OpeningQuery, NodeQuery, Opening, Composition, Literal, NoNode}
 
+-- A number that is there, or is left out.
+abbrev pub statedBy : Bool → ℕ → Option ℕ
+statedBy numbered x = cond numbered (some x) none
+
 -- The message that an answer stands for. Cells, references and bytes are not copied: they are what stands in the words from place `at` on.
 abbrev pub meant : List ℕ → Message → Option Msg
 meant ws Bad = none
 meant ws (OpeningQuery n) = some (openingQuery n)
 meant ws (NodeQuery n l i) = some (nodeQuery n l i)
 meant ws (Opening n rule w p L M q len root at) = some (opening n rule w p L M q len root (valuesOf (cellValues q) (drop at ws)))
-meant ws (Composition n l i x at count) = some (composition n l i x (manyFrom referenceWord (drop at ws)))
+meant ws (Composition n l i numbered x at count) = some (composition n l i (statedBy numbered x) (manyFrom referenceWord (drop at ws)))
 meant ws (Literal n l i at count) = some (literal n l i (textFrom (drop at ws)))
 meant ws (NoNode n l i) = some (noNode n l i)
 
--- Where they stand. An opening's cells come after the head, seven numbers and the root id in three words; references after the head, the
--- level, the id in three words and the trail number; bytes after the head, the level and the id.
+-- A composition's references come after the head, the level, the id in three words and the trail number, if it is there.
+abbrev pub referencesAt : Bool → ℕ
+referencesAt numbered = cond numbered 6 5
+
+-- Where cells, references and bytes stand. An opening's cells come after the head, seven numbers and the root id in three words; a literal's bytes
+-- after the head, the level and the id.
 abbrev pub Placed : Message → Type 0
 Placed Bad = Unit {0}
 Placed (OpeningQuery n) = Unit {0}
 Placed (NodeQuery n l i) = Unit {0}
 Placed (Opening n rule w p L M q len root at) = at ≡ 11
-Placed (Composition n l i x at count) = at ≡ 6
+Placed (Composition n l i numbered x at count) = at ≡ referencesAt numbered
 Placed (Literal n l i at count) = at ≡ 5
 Placed (NoNode n l i) = Unit {0}
 
@@ -38,7 +46,7 @@ Counted ws Bad = Unit {0}
 Counted ws (OpeningQuery n) = Unit {0}
 Counted ws (NodeQuery n l i) = Unit {0}
 Counted ws (Opening n rule w p L M q len root at) = Unit {0}
-Counted ws (Composition n l i x at count) = count ≡ length (manyFrom referenceWord (drop at ws))
+Counted ws (Composition n l i numbered x at count) = count ≡ length (manyFrom referenceWord (drop at ws))
 Counted ws (Literal n l i at count) = count ≡ length (textFrom (drop at ws))
 Counted ws (NoNode n l i) = Unit {0}
 
@@ -54,7 +62,7 @@ numberOf Bad = 10
 numberOf (OpeningQuery n) = 2 ^ 32 + 1
 numberOf (NodeQuery n l i) = 2 ^ 32 + 2
 numberOf (Opening n rule w p L M q len root at) = 2 ^ 32 + 3
-numberOf (Composition n l i x at count) = 2 ^ 32 + 4
+numberOf (Composition n l i numbered x at count) = 2 ^ 32 + 4
 numberOf (Literal n l i at count) = 2 ^ 32 + 5
 numberOf (NoNode n l i) = 2 ^ 32 + 6
 

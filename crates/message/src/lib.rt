@@ -4,7 +4,8 @@ pub mod reader;
 mod run;
 mod word;
 
-// What reading some bytes answers. A message's cells, references and bytes stay where they are, from word `at` on.
+// What reading some bytes answers. A message's cells, references and bytes stay where they are, from word `at` on. A composition that is not
+// `numbered` carries no trail number, and its `number` says nothing.
 pub enum Message {
     Bad,
     OpeningQuery {
@@ -31,6 +32,7 @@ pub enum Message {
         session: u64,
         level: u64,
         id: u64,
+        numbered: bool,
         number: u64,
         at: usize,
         count: usize,

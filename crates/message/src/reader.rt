@@ -5,7 +5,7 @@ ghost use Prim.Native.Nat.{_<_, min};
 ghost use lib.ListN.{length, getD, drop};
 ghost use Rattle.message.specs.Words.{linkWords};
 ghost use Rattle.message.specs.Messages.{parse};
-ghost use Rattle.message.specs.Reading.{meant, Placed, Counted, Reads, ReadsBody, pairIs, openingAt, numberOf, typeAnswer};
+ghost use Rattle.message.specs.Reading.{meant, Placed, Counted, Reads, ReadsBody, pairIs, referencesAt, openingAt, numberOf, typeAnswer};
 ghost use Rattle.message.specs.Parts.{CellRead, ReferenceRead, Copied, threeEach};
 use crate::Message;
 use crate::field::is_end;
@@ -89,16 +89,22 @@ fn literal(message: &[u8], session: u64) -> Message
     }
 }
 
+// The word from which a composition's references stand: after the head, the level, the id and the trail number, if it is there.
+pub fn references_from(numbered: bool) -> usize
+    ensures { λ r. ⌜ r ≡ referencesAt numbered ⌝ }
+{
+    if numbered { 6 } else { 5 }
+}
+
 fn composition(message: &[u8], session: u64) -> Message
     ensures { λ r. ⌜ ReadsBody (now (message .entry)) session 4 r ⌝ }
 {
     if !pair(message) {
         return Message::Bad;
     }
-    if !is_number(message, 5) {
-        return Message::Bad;
-    }
-    let run = reference_run(message, 6);
+    let numbered = is_number(message, 5);
+    let at = references_from(numbered);
+    let run = reference_run(message, at);
     if !run.sound {
         return Message::Bad;
     }
@@ -108,13 +114,14 @@ fn composition(message: &[u8], session: u64) -> Message
     let level = number_at(message, 1);
     let id = value_at(message, 2);
     let number = number_at(message, 5);
-    let count = run.end - 6;
+    let count = run.end - at;
     Message::Composition {
         session,
         level,
         id,
+        numbered,
         number,
-        at: 6,
+        at,
         count,
     }
 }

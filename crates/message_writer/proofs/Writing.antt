@@ -1,4 +1,5 @@
 -- Laws of writing: words stored one after the other are one row of words stored, and a whole message stored is a message written.
+use mathlib.Core.Bool.{Bool, true, false}
 use mathlib.Core.List.{List, [], _∷_, _++_, append-nil}
 use mathlib.Core.Path.{_≡_, refl, sym, ap, _∙_}
 use Prim.Native.Nat.{ℕ, zero, suc, _+_, _*_, _-_, _/_, _%_, _^_, _≤_, _<_, min}
@@ -9,8 +10,9 @@ use borrow.Author.Tests.{le-leb, lt-leb}
 use lib.ListN.{length, getD, set, drop, length-append, drop-of-length-le}
 use lib.Seq.{sets, length-sets, sets-eq, drop-cons}
 use Rattle.message.specs.Words.{linkBytes, bytesOf, withKind, plain, headWord, endWord, referenceWord, bytesWord, wordOf}
-use Rattle.message.specs.Fields.{one, number, head, value, values, textTo, text, valuesTo, manyTo, many, only}
+use Rattle.message.specs.Fields.{one, number, head, value, values, textTo, text, valuesTo, manyTo, many, maybeTo, maybe, maybeNumber, only}
 use Rattle.message.specs.Messages.{Msg, openingQuery, nodeQuery, opening, composition, literal, noNode, headed, wordsThen, sizeOf, encodeWords, encode}
+use Rattle.message.specs.Reading.{statedBy, referencesAt}
 use Rattle.message.proofs.Words.{length-bytes}
 use Rattle.message.proofs.Messages.{length-encode, length-encode-words}
 use Rattle.message_writer.specs.Writing.{Written, Stored, firstRows, paired}
@@ -264,20 +266,45 @@ length-paired [] counts = omega arith
 length-paired (x ∷ xs) [] = omega arith
 length-paired (x ∷ xs) (y ∷ ys) = let n = length-paired xs ys in omega arith
 
-pub composition-size : (n l i x : ℕ) (indexes counts : List ℕ)
-    → min (length indexes) (length counts) + 7 ≡ sizeOf (composition n l i x (paired indexes counts))
-unfolding sizeOf wordsThen headed one value only many
-composition-size n l i x indexes counts =
-    rw (append-nil (manyTo referenceWord (paired indexes counts)), length-paired indexes counts) (omega arith)
+-- The trail number, there or left out.
+pub references-low : (numbered : Bool) → referencesAt numbered ≤ 6
+references-low true = omega arith
+references-low false = omega arith
 
-pub composition-stored : {b b₁ b₂ b₃ b₄ : List ℕ} (n l i x words : ℕ) (indexes counts : List ℕ) → words ≡ min (length indexes) (length counts)
-    → Stored b b₁ 0 (headed 4 n (number .to l ++ value .to i)) → Stored b₁ b₂ 5 (number .to x)
-    → Stored b₂ b₃ 6 (manyTo referenceWord (paired indexes counts)) → Stored b₃ b₄ (words + 6) (endWord (words + 6 + 1) ∷ [])
-    → Stored b b₄ 0 (encodeWords (composition n l i x (paired indexes counts)))
-unfolding encodeWords wordsThen headed one value only many
-composition-stored n l i x words indexes counts e p q r t =
-    let size : sizeOf (composition n l i x (paired indexes counts)) ≡ words + 6 + 1 = sym (composition-size n l i x indexes counts) ∙ omega arith in
-    rw size (after (words + 6) (omega (arith, length-paired indexes counts)) (after 6 refl (after 5 refl p q) r) t)
+pub trail-number-stored : {b b′ : List ℕ} (x : ℕ) → Stored b b′ 5 (number .to x) → Stored b b′ 5 (maybeNumber .to (statedBy true x))
+unfolding maybe maybeTo one
+trail-number-stored x p = p
+
+pub no-trail-number-stored : (b : List ℕ) (x : ℕ) → Stored b b 5 (maybeNumber .to (statedBy false x))
+unfolding maybe maybeTo
+no-trail-number-stored b x = stored-none b 5
+
+module _ (n l i x : ℕ) (indexes counts : List ℕ) where
+  abbrev pub composed : Bool → Msg
+  composed numbered = composition n l i (statedBy numbered x) (paired indexes counts)
+
+  length-trail-number : (numbered : Bool) → 5 + length (maybeNumber .to (statedBy numbered x)) ≡ referencesAt numbered
+  unfolding maybe maybeTo
+  length-trail-number true = refl
+  length-trail-number false = refl
+
+  pub composition-size : (numbered : Bool) → min (length indexes) (length counts) + referencesAt numbered + 1 ≡ sizeOf (composed numbered)
+  unfolding sizeOf wordsThen headed one value only many maybe
+  composition-size numbered =
+      let words = length-append (maybeNumber .to (statedBy numbered x)) (manyTo referenceWord (paired indexes counts)) in
+      rw (append-nil (manyTo referenceWord (paired indexes counts)), words) (omega (arith, length-trail-number numbered, length-paired indexes counts))
+
+  pub composition-stored : {b b₁ b₂ b₃ b₄ : List ℕ} (numbered : Bool) (from words : ℕ) → from ≡ referencesAt numbered → words ≡ min (length indexes) (length counts)
+      → Stored b b₁ 0 (headed 4 n (number .to l ++ value .to i)) → Stored b₁ b₂ 5 (maybeNumber .to (statedBy numbered x))
+      → Stored b₂ b₃ from (manyTo referenceWord (paired indexes counts)) → Stored b₃ b₄ (words + from) (endWord (words + from + 1) ∷ [])
+      → Stored b b₄ 0 (encodeWords (composed numbered))
+  unfolding encodeWords wordsThen headed one value only many maybe maybeTo
+  composition-stored true from words f e p q r t =
+      let size : sizeOf (composed true) ≡ words + from + 1 = sym (composition-size true) ∙ omega (arith, f, e) in
+      rw size (after (words + from) (omega (arith, length-paired indexes counts)) (after from f (after 5 refl p q) r) t)
+  composition-stored false from words f e p q r t =
+      let size : sizeOf (composed false) ≡ words + from + 1 = sym (composition-size false) ∙ omega (arith, f, e) in
+      rw size (after (words + from) (omega (arith, length-paired indexes counts)) (after from f (after 5 refl p q) r) t)
 
 pub front-stored : {b b₁ b₂ b₃ b₄ b₅ : List ℕ} (n rule w p L : ℕ) → Stored b b₁ 0 (head .to (record { type = 3; session = n })) → Stored b₁ b₂ 1 (number .to rule)
     → Stored b₂ b₃ 2 (number .to w) → Stored b₃ b₄ 3 (number .to p) → Stored b₄ b₅ 4 (number .to L)

@@ -5,16 +5,18 @@ mod put;
 ghost use mathlib.Core.Path.{_≡_};
 ghost use Prim.Native.Nat.{_*_, min};
 ghost use Rattle.message.specs.Messages.{encode, openingQuery, nodeQuery, opening, composition, literal, noNode};
+ghost use Rattle.message.specs.Reading.{statedBy};
 ghost use Rattle.rows.specs.Rows.{wordsOf};
 ghost use Rattle.message_writer.specs.Writing.{Written, firstRows, paired};
+use message::reader::references_from;
 use put::put_end;
 use put::put_front;
 use put::put_head;
 use put::put_middle;
-use put::put_number;
 use put::put_pair;
 use put::put_references;
 use put::put_text;
+use put::put_trail_number;
 use put::put_values;
 
 // Type 1, an opening query.
@@ -74,27 +76,31 @@ fn least(a: usize, b: usize) -> usize
     if a < b { a } else { b }
 }
 
-// Type 4, a composition. Reference k has entry k of the indexes and of the counts; there are as many as both have.
+// Type 4, a composition, with its trail number if it is `numbered`. Reference k has entry k of the indexes and of the counts; there are as
+// many as both have.
 pub fn write_composition(
     buffer: &mut [u8],
     session: u64,
     level: u64,
     id: u64,
+    numbered: bool,
     number: u64,
     indexes: &[u64],
     counts: &[u64],
 ) -> u64
-    ensures { λ r. ⌜ Written (now (buffer .entry)) (now (buffer .exit)) (encode (composition session level id number (paired (now (indexes .entry)) (now (counts .entry))))) r ⌝ }
+    ensures { λ r. ⌜ Written (now (buffer .entry)) (now (buffer .exit))
+        (encode (composition session level id (statedBy numbered number) (paired (now (indexes .entry)) (now (counts .entry))))) r ⌝ }
 {
     let words = least(indexes.len(), counts.len());
-    let size = words + 7;
+    let from = references_from(numbered);
+    let size = words + from + 1;
     if buffer.len() / 4 < size {
         return 20;
     }
     put_pair(buffer, 4, session, level, id);
-    put_number(buffer, 5, number);
-    put_references(buffer, 6, indexes, counts);
-    put_end(buffer, words + 6);
+    put_trail_number(buffer, numbered, number);
+    put_references(buffer, from, indexes, counts);
+    put_end(buffer, words + from);
     4294967296 + size as u64 * 4
 }
 

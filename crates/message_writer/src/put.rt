@@ -4,8 +4,9 @@ ghost use mathlib.Core.Path.{_≡_};
 ghost use Prim.Native.Nat.{_+_, _*_, _^_, _<_};
 ghost use lib.ListN.{length, drop};
 ghost use Rattle.message.specs.Words.{bytesWord, endWord, referenceWord};
-ghost use Rattle.message.specs.Fields.{number, value, head, textTo, valuesTo, manyTo};
+ghost use Rattle.message.specs.Fields.{number, maybeNumber, value, head, textTo, valuesTo, manyTo};
 ghost use Rattle.message.specs.Messages.{headed};
+ghost use Rattle.message.specs.Reading.{statedBy};
 ghost use Rattle.rows.specs.Rows.{wordsOf};
 ghost use Rattle.message_writer.specs.Writing.{Stored, firstRows, paired};
 
@@ -73,6 +74,15 @@ pub fn put_pair(buffer: &mut [u8], form: u64, session: u64, level: u64, id: u64)
     put_head(buffer, form, session);
     put_number(buffer, 1, level);
     put_value(buffer, 2, id);
+}
+
+// The trail number of a composition in word 5, if it is there.
+pub fn put_trail_number(buffer: &mut [u8], numbered: bool, x: u64)
+    ensures { λ _. ⌜ Stored (now (buffer .entry)) (now (buffer .exit)) 5 (maybeNumber .to (statedBy numbered x)) ⌝ }
+{
+    if numbered {
+        put_number(buffer, 5, x);
+    }
 }
 
 // The bytes word of three bytes, of which the first `many` are used.

@@ -42,12 +42,19 @@ fn literal_case(level: u64, text: &mut [u8], buffer: &mut [u8]) {
     show::written(answer, buffer);
 }
 
-fn composition_case(number: u64, indexes: &[u64], counts: &[u64], buffer: &mut [u8]) {
+fn composition_case(
+    numbered: bool,
+    number: u64,
+    indexes: &[u64],
+    counts: &[u64],
+    buffer: &mut [u8],
+) {
     let answer = write_composition(
         buffer,
         16777215,
         3,
         18446744073709551615,
+        numbered,
         number,
         indexes,
         counts,
@@ -105,19 +112,55 @@ fn literals() {
     literal_case(4, &mut long, &mut buffer);
 }
 
-fn compositions() {
-    let mut buffer = [170u8; 64];
-    composition_case(0, &[0], &[1], &mut buffer);
-    composition_case(4095, &[0, 1, 7, 12, 4095], &[1, 31, 2, 3, 32], &mut buffer);
-    composition_case(4095, &[4095, 0, 7, 12, 1], &[32, 1, 2, 3, 31], &mut buffer);
-    composition_case(4096, &[], &[], &mut buffer);
-    composition_case(1, &[3, 3], &[1, 1], &mut buffer);
+// Compositions with a number or without: of one reference, of five that rise, of five that fall, of none, of an index twice.
+fn short_compositions(numbered: bool, buffer: &mut [u8]) {
+    composition_case(numbered, 0, &[0], &[1], buffer);
     composition_case(
+        numbered,
+        4095,
+        &[0, 1, 7, 12, 4095],
+        &[1, 31, 2, 3, 32],
+        buffer,
+    );
+    composition_case(
+        numbered,
+        4095,
+        &[4095, 0, 7, 12, 1],
+        &[32, 1, 2, 3, 31],
+        buffer,
+    );
+    composition_case(numbered, 4096, &[], &[], buffer);
+    composition_case(numbered, 1, &[3, 3], &[1, 1], buffer);
+}
+
+fn ten_references(numbered: bool, buffer: &mut [u8]) {
+    composition_case(
+        numbered,
         1,
         &[1, 2, 3, 4, 5, 6, 7, 8, 9, 10],
         &[1, 1, 1, 1, 1, 1, 1, 1, 1, 1],
-        &mut buffer,
+        buffer,
     );
+}
+
+fn eleven_references(buffer: &mut [u8]) {
+    composition_case(
+        false,
+        1,
+        &[1, 2, 3, 4, 5, 6, 7, 8, 9, 10, 11],
+        &[1, 1, 1, 1, 1, 1, 1, 1, 1, 1, 1],
+        buffer,
+    );
+}
+
+// Ten references and a number do not fit the buffer; without the number ten fit, and eleven do not.
+fn compositions() {
+    let mut buffer = [170u8; 64];
+    short_compositions(true, &mut buffer);
+    ten_references(true, &mut buffer);
+    short_compositions(false, &mut buffer);
+    ten_references(false, &mut buffer);
+    eleven_references(&mut buffer);
 }
 
 fn openings() {

@@ -80,12 +80,24 @@ fn print_opening(message: &[u8]) {
     print_cells(message, at, q);
 }
 
+// 1 and the trail number, or 0 and 0 where it is omitted.
+fn print_trail(numbered: bool, number: u64) {
+    if numbered {
+        print_number(1);
+        print_number(number);
+    } else {
+        print_number(0);
+        print_number(0);
+    }
+}
+
 fn print_composition(message: &[u8]) {
     let found = read(message);
     let Message::Composition {
         session,
         level,
         id,
+        numbered,
         number,
         at,
         count,
@@ -94,7 +106,7 @@ fn print_composition(message: &[u8]) {
         return;
     };
     print_pair(session, level, id);
-    print_number(number);
+    print_trail(numbered, number);
     print_references(message, at, count);
 }
 

@@ -27,6 +27,7 @@ use Rattle.message.specs.Words.{Ref}
 use Rattle.message.specs.Messages.{Msg, nodeQuery, opening, composition, literal}
 use Rattle.protocol.specs.Lent.{Lent, refusedBy, withShingles}
 use Rattle.protocol.specs.State.{Pending, State, pending, initial, going}
+use Rattle.protocol.specs.Numbers.{stated}
 use Rattle.protocol.specs.Sender.{ruleNumber, composable, refsOf}
 use Rattle.single.specs.Peeling.{rowsIn}
 use Rattle.protocol.specs.Receiver.{peeledOf, openingRefusal, takeOpening, below, nodeRefusal, composes, children, takeNode, act, find, settle}
@@ -163,17 +164,17 @@ module _ (σ : Settings) (string own : List ℕ) (n : ℕ) (sender : Accepted σ
           let many : length (map blockId (childrenOf σ (c .level + 1) (c .bytes))) ≡ length (childrenOf σ (c .level + 1) (c .bytes)) = length-map (childrenOf σ (c .level + 1) (c .bytes)) blockId in
           omega (arith, behind, kids, names, many, deep, low)
 
-      composition-accepted : (session i : ℕ) → Outcome σ string own n still (act s m (composition session (c .level) i (trailNumber ids) refs))
+      composition-accepted : (session i : ℕ) → Outcome σ string own n still (act s m (composition session (c .level) i (stated ids) refs))
       unfolding act below going initial
       composition-accepted session i =
           let after = holding-children σ string deep holding in
-          let passes : composes σ (shinglesIn (m .shingles)) (c .level) (trailNumber ids) refs (length (map nameOf cs)) ≡ true =
-          ap (λ (list : List Shingle). composes σ list (c .level) (trailNumber ids) refs (length (map nameOf cs))) (memory .listed)
+          let passes : composes σ (shinglesIn (m .shingles)) (c .level) (stated ids) refs (length (map nameOf cs)) ≡ true =
+          ap (λ (list : List Shingle). composes σ list (c .level) (stated ids) refs (length (map nameOf cs))) (memory .listed)
           ∙ composition-taken σ string c real deep small (length (map nameOf cs)) pile-room in
-          let pile : children (shinglesIn (m .shingles)) (c .level) (trailNumber ids) refs ++ map nameOf cs ≡ map nameOf (childrenBlocks σ c ++ cs) =
-          ap (λ (list : List Shingle). children list (c .level) (trailNumber ids) refs ++ map nameOf cs) (memory .listed)
+          let pile : children (shinglesIn (m .shingles)) (c .level) (stated ids) refs ++ map nameOf cs ≡ map nameOf (childrenBlocks σ c ++ cs) =
+          ap (λ (list : List Shingle). children list (c .level) (stated ids) refs ++ map nameOf cs) (memory .listed)
           ∙ (ap (λ (p : List Pending). p ++ map nameOf cs) (composition-children σ string c real deep small) ∙ sym (names-children σ string c cs)) in
-          let leaves : act s m (composition session (c .level) i (trailNumber ids) refs) ≡ takeNode s m _ [] (map nameOf (childrenBlocks σ c ++ cs)) = ap (takeNode s m _ []) pile in
+          let leaves : act s m (composition session (c .level) i (stated ids) refs) ≡ takeNode s m _ [] (map nameOf (childrenBlocks σ c ++ cs)) = ap (takeNode s m _ []) pile in
           subst (Outcome σ string own n still) (sym leaves)
           (node-taken _ [] (childrenBlocks σ c ++ cs) passes (omega (arith, bytes-fit σ string holding))
           (subst (λ (b : List ℕ). Holding σ string (childrenBlocks σ c ++ cs) b (taken + 1)) (sym (append-nil built)) after))

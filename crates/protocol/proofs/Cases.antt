@@ -41,7 +41,7 @@ opening-first s n rule w p L M q size root cells e = phase-opening (running s) (
 
 -- The message is a node reply.
 pub data NodeReply : Msg → Type 0 where
-  composed : (n l i x : ℕ) (refs : _) → NodeReply (composition n l i x refs)
+  composed : (n l i : ℕ) (x : Option ℕ) (refs : _) → NodeReply (composition n l i x refs)
   given : (n l i : ℕ) (bytes : List ℕ) → NodeReply (literal n l i bytes)
   missing : (n l i : ℕ) → NodeReply (noNode n l i)
 

@@ -8,6 +8,7 @@ pub mod Blocks
 pub mod Pending
 pub mod References
 pub mod Referable
+pub mod Numbers
 pub mod Replies
 pub mod Matching
 pub mod Stages

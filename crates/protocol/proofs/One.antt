@@ -2,7 +2,7 @@
 -- node is one message.
 use mathlib.Core.Bool.{true}
 use mathlib.Core.List.{List}
-use mathlib.Core.Option.{some}
+use mathlib.Core.Option.{Option, some}
 use mathlib.Core.Path.{_≡_, refl, sym, ap, subst, _∙_}
 use Prim.Native.Nat.{ℕ}
 use borrow.Author.Tests.{eq-eqb}
@@ -17,12 +17,12 @@ use Rattle.protocol.proofs.Matching.{only-node}
 use Rattle.protocol.proofs.Valid.{valid-reply}
 
 -- A composition matches the query about its node.
-composition-fits : (n l i x : ℕ) (refs : List Ref) → fits (nodeQuery n l i) (composition n l i x refs) ≡ true
+composition-fits : (n l i : ℕ) (x : Option ℕ) (refs : List Ref) → fits (nodeQuery n l i) (composition n l i x refs) ≡ true
 unfolding fits sessionOf levelOf idOf typeOf
 composition-fits n l i x refs = rw (eq-eqb n n refl, eq-eqb l l refl, eq-eqb i i refl) refl
 
 module _ {σ : Settings} {string : List ℕ} {session : ℕ} {query : Msg} {bytes : List ℕ} (g : GenuineReply σ string session query bytes)
-    (l i x : ℕ) (refs : List Ref) (read : parse bytes ≡ some (composition session l i x refs)) where
+    (l i : ℕ) (x : Option ℕ) (refs : List Ref) (read : parse bytes ≡ some (composition session l i x refs)) where
   is-composition : g .message ≡ composition session l i x refs
   is-composition =
       let valid = valid-reply (g .settings) (g .sender) query (g .message) (g .setup) (g .asked) (g .replies) in

@@ -31,6 +31,7 @@ use Rattle.message.specs.Messages.{Msg, openingQuery, nodeQuery, opening, compo
 use Rattle.protocol.specs.Lent.{Lent}
 use Rattle.node_table.specs.Nodes.{inside, entriesIn, fromFirst}
 use Rattle.protocol.specs.Nodes.{blockIn}
+use Rattle.protocol.specs.Numbers.{stated}
 use Rattle.protocol.specs.Sender.{ruleNumber, childIds, composable, refsOf, referable, nodeReply, openingReply, replyTo}
 use Rattle.protocol.specs.Genuine.{blocksOf, childrenIds, firstOf, blockReply, foundReply, IsReply}
 use Rattle.protocol.specs.Demand.{SetupAccepts, leftBySetup}
@@ -206,9 +207,9 @@ module _ (σ : Settings) (string : List ℕ) (n l i : ℕ) (listed : length (shi
     deep-enough a e = ltb-true l (σ .levels) (and-true (ltb l (σ .levels)) _ e .0)
 
     block-reply : (t : Bool) → composable σ l ids ≡ t
-        → cond t (composition n l i (trailNumber ids) (refsOf list (l + 1) ids)) (literal n l i (blockIn string (entryOf x))) ≡ blockReply σ string n l i (x .node .bytes) t
+        → cond t (composition n l i (stated ids) (refsOf list (l + 1) ids)) (literal n l i (blockIn string (entryOf x))) ≡ blockReply σ string n l i (x .node .bytes) t
     unfolding blockReply blockIn
-    block-reply true e = ap (λ (c : List ℕ). composition n l i (trailNumber c) (refsOf list (l + 1) c)) (ids-are (deep-enough ids e))
+    block-reply true e = ap (λ (c : List ℕ). composition n l i (stated c) (refsOf list (l + 1) c)) (ids-are (deep-enough ids e))
     block-reply false e = ap (literal n l i) (within .same)
 
     few-referred : (composable σ l ids && referable list (l + 1) ids) ≡ composable σ l ids

@@ -1,5 +1,5 @@
--- What a genuine reply to the query of a pending block says: the block's bytes, or references and a number from which the receiver, with the
--- sender's list, has the block's children again.
+-- What a genuine reply to the query of a pending block says: the block's bytes, or references and, where it is needed, a number, from which the
+-- receiver, with the sender's list, has the block's children again.
 use mathlib.Core.Bool.{Bool, true, false, cond, _&&_}
 use mathlib.Core.List.{List, [], _∷_, map, List·Memᴰ, List·Memᴰ·head, List·Memᴰ·tail}
 use mathlib.Core.Logic.{_⊎_, inl, inr, ⊎-elim}
@@ -25,16 +25,19 @@ use Rattle.shingle.proofs.PairOrder.{and-true}
 use Rattle.shingle.proofs.Rising.{shingles-rise}
 use Rattle.shingle.proofs.Descent.{tree-children-listed}
 use Rattle.setup.specs.Tables.{shinglesOfString}
-use Rattle.trail.specs.Trails.{pairsFrom, pairsOf, total, trailNumber, trailsOver, orderOf}
+use Rattle.trail.specs.Trails.{pairsFrom, pairsOf, total, trailNumber, trailsOver, orderOf, onlyTrail, onlyOver}
+use Rattle.trail.proofs.Only.{only-alike}
 use Rattle.trail.proofs.Orders.{order-of-number}
 use Rattle.trail.proofs.Weigh.{trail-length}
 use Rattle.message.specs.Words.{Ref}
 use Rattle.protocol.specs.State.{pending}
+use Rattle.protocol.specs.Numbers.{stated, meantBy}
 use Rattle.protocol.specs.Sender.{refsOf}
 use Rattle.protocol.specs.Receiver.{previouses, owns, counts, composes, children}
 use Rattle.protocol.specs.Calls.{Some}
 use Rattle.protocol.specs.Genuine.{blocksOf, childrenIds, firstOf}
 use Rattle.protocol.specs.Demand.{In}
+use Rattle.protocol.proofs.Numbers.{meant-number, stated-rightly}
 use Rattle.protocol.proofs.References.{refs-named, refs-pairs}
 
 -- Among blocks whose ids tell them apart, the first of a block's level and id has its bytes.
@@ -89,35 +92,42 @@ module _ (σ : Settings) (string : List ℕ) (c : Content) (real : In c (blocksO
   unfolding childrenIds
   length-ids = length-map (childrenOf σ (c .level + 1) (c .bytes)) blockId
 
+  abbrev list : List Shingle
+  list = shinglesOfString σ string
+
+  abbrev refs : List Ref
+  refs = refsOf list (c .level + 1) ids
+
+  rises : Rising list
+  unfolding shinglesOfString
+  rises = shingles-rise _
+
+  same-pairs : pairsFrom 0 ids ≡ pairsOf (previouses list refs) (owns list refs) (counts refs)
+  same-pairs = refs-pairs list rises (c .level + 1) ids children-there
+
+  columns : (length (previouses list refs) ≡ length (counts refs)) × (length (owns list refs) ≡ length (counts refs))
+  columns = (length-map refs _ ∙ sym (length-map refs _), length-map refs _ ∙ sym (length-map refs _))
+
+  -- Both ends decide alike: there is one trail over what the references name exactly where the sender, over the children's own pairs, saw one.
+  pub decided-alike : onlyTrail ids ≡ onlyOver (previouses list refs) (owns list refs) (counts refs)
+  decided-alike = only-alike (previouses list refs) (owns list refs) (counts refs) columns ids same-pairs
+
+  as-many : length ids ≡ total (counts refs)
+  as-many =
+      trail-length 0 ids
+      (record { previouses = previouses list refs; owns = owns list refs; counts = counts refs; long = columns; gives = refl; size = refl })
+      same-pairs
+
   module _ (low : trailNumber ids ≤ 4095) where
-    abbrev list : List Shingle
-    list = shinglesOfString σ string
-
-    abbrev refs : List Ref
-    refs = refsOf list (c .level + 1) ids
-
-    rises : Rising list
-    unfolding shinglesOfString
-    rises = shingles-rise _
-
-    same-pairs : pairsFrom 0 ids ≡ pairsOf (previouses list refs) (owns list refs) (counts refs)
-    same-pairs = refs-pairs list rises (c .level + 1) ids children-there
-
-    columns : (length (previouses list refs) ≡ length (counts refs)) × (length (owns list refs) ≡ length (counts refs))
-    columns = (length-map refs _ ∙ sym (length-map refs _), length-map refs _ ∙ sym (length-map refs _))
+    meant : meantBy (stated ids) ≡ trailNumber ids
+    meant = meant-number (previouses list refs) (owns list refs) (counts refs) columns ids same-pairs
 
     trail : (trailNumber ids < length (trailsOver (previouses list refs) (owns list refs) (counts refs)))
         × (orderOf (previouses list refs) (owns list refs) (counts refs) (trailNumber ids) ≡ ids)
     trail = order-of-number (previouses list refs) (owns list refs) (counts refs) columns ids same-pairs low
 
-    as-many : length ids ≡ total (counts refs)
-    as-many =
-        trail-length 0 ids
-        (record { previouses = previouses list refs; owns = owns list refs; counts = counts refs; long = columns; gives = refl; size = refl })
-        same-pairs
-
     -- Question 17 is passed, and the trail is the children's ids.
-    pub composition-taken : (rest : ℕ) → rest + length ids ≤ 128 → composes σ list (c .level) (trailNumber ids) refs rest ≡ true
+    pub composition-taken : (rest : ℕ) → rest + length ids ≤ 128 → composes σ list (c .level) (stated ids) refs rest ≡ true
     unfolding composes
     composition-taken rest room =
         let named = refs-named list rises (c .level + 1) ids children-there in
@@ -128,11 +138,13 @@ module _ (σ : Settings) (string : List ℕ) (c : Content) (real : In c (blocksO
           named,
           le-leb 1 (total (counts refs)) some,
           le-leb (total (counts refs)) 32 few,
+          meant,
           le-leb (trailNumber ids) 4095 low,
           lt-ltb _ _ (trail .0),
+          stated-rightly (previouses list refs) (owns list refs) (counts refs) columns ids same-pairs,
           le-leb (rest + total (counts refs)) 128 (omega (arith, as-many, room)),
         ) refl
 
-    pub composition-children : children list (c .level) (trailNumber ids) refs ≡ map (pending (c .level + 1)) ids
+    pub composition-children : children list (c .level) (stated ids) refs ≡ map (pending (c .level + 1)) ids
     unfolding children
-    composition-children = ap (map (pending (c .level + 1))) (trail .1)
+    composition-children = ap (map (pending (c .level + 1))) (ap (orderOf (previouses list refs) (owns list refs) (counts refs)) meant ∙ trail .1)

@@ -1,6 +1,6 @@
 -- Genuine replies are within their fields, so that what is read of them is what was written.
 use mathlib.Core.Bool.{Bool, true, false, cond, _&&_}
-use mathlib.Core.List.{List, [], _∷_, map}
+use mathlib.Core.List.{List, [], _∷_, _++_, map}
 use mathlib.Core.Option.{Option, none, some}
 use mathlib.Core.Path.{_≡_, refl, ap, subst, _∙_}
 use Prim.Native.Nat.{ℕ, zero, suc, _+_, _*_, _%_, _^_, _≤_, _<_}
@@ -28,17 +28,19 @@ use Rattle.sketch.specs.Cells.{cellsOf}
 use Rattle.setup.specs.Tables.{shinglesOfString}
 use Rattle.setup.proofs.Questions.{width-within}
 use Rattle.setup.proofs.Sizes.{length-cells, few-shingles}
-use Rattle.trail.specs.Trails.{trailNumber}
+use Rattle.trail.specs.Trails.{onlyTrail}
 use Rattle.trail.proofs.Answers.{number-small}
-use Rattle.message.specs.Words.{Ref, plain, referenceWord}
-use Rattle.message.specs.Fields.{one, value, values, valuesTo, many, manyTo, only, rising, text, textTo}
+use Rattle.message.specs.Words.{Ref, plain, numberWord, referenceWord}
+use Rattle.message.specs.Fields.{one, value, values, valuesTo, many, manyTo, maybeTo, MaybeFits, maybe, only, rising, text, textTo}
 use Rattle.message.specs.Fields.{Every as All}
 use Rattle.message.specs.Messages.{Msg, openingQuery, nodeQuery, opening, composition, literal, noNode, cellValues, headed, wordsThen, sizeOf, Parts, Valid}
 use Rattle.message.proofs.Rising.{risingFrom, rising-from-zero}
+use Rattle.protocol.specs.Numbers.{stated}
 use Rattle.protocol.specs.Sender.{ruleNumber, composable, refer, refsFrom, refsOf, indexed, referable}
 use Rattle.protocol.specs.Calls.{Every}
 use Rattle.protocol.specs.Genuine.{blocksOf, Accepted, childrenIds, firstOf, blockReply, foundReply, IsReply}
 use Rattle.protocol.proofs.Memory.{same-bytes, none-not}
+use Rattle.protocol.proofs.Numbers.{stated-only, stated-others}
 use Rattle.protocol.proofs.Referable.{length-along, rising-referable}
 
 -- References: few, each within its fields, rising by index.
@@ -181,24 +183,34 @@ few-children σ l ids e =
     let few = ltb-true (length ids) 33 (and-true (ltb (length ids) 33) _ (and-true (ltb 0 (length ids)) _ some .1) .0) in
     omega (arith, few)
 
+-- A number that is carried is within its field, and it is one word.
+stated-printable : (ids : List ℕ) → MaybeFits numberWord (stated ids) × (length (maybeTo numberWord (stated ids)) ≤ 1)
+unfolding MaybeFits maybeTo plain
+stated-printable ids = go (onlyTrail ids) refl
+  where
+    go : (t : Bool) → onlyTrail ids ≡ t → MaybeFits numberWord (stated ids) × (length (maybeTo numberWord (stated ids)) ≤ 1)
+    go true e = rw (stated-only ids e) (tt, omega arith)
+    go false e = rw (stated-others ids e) (omega (arith, number-small ids), omega arith)
+
 -- A composition that can be written, over any list.
 pub valid-composition : (σ : Settings) (list : List Shingle) (n l i : ℕ) (ids : List ℕ) → Valid (nodeQuery n l i) → composable σ l ids ≡ true
-    → referable list (l + 1) ids ≡ true → Valid (composition n l i (trailNumber ids) (refsOf list (l + 1) ids))
-unfolding referable Parts sizeOf wordsThen headed one value only many plain
+    → referable list (l + 1) ids ≡ true → Valid (composition n l i (stated ids) (refsOf list (l + 1) ids))
+unfolding referable Parts sizeOf wordsThen headed one value only many maybe
 valid-composition σ list n l i ids v c r =
     let refs = refsOf list (l + 1) ids in
     let written = and-true (ltb (length refs) 33) (indexed refs) r in
     let short = ltb-true (length refs) 33 (written .0) in
+    let words = length-append (maybeTo numberWord (stated ids)) (manyTo referenceWord refs ++ []) in
     let e = length-append (manyTo referenceWord refs) [] in
     let h = length-references refs in
-    let x = number-small ids in
+    let trail = stated-printable ids in
     record {
-      size = omega (arith, e, h, short);
+      size = omega (arith, words, e, h, short, trail .1);
       parts = (
         v .parts .0,
         v .parts .1,
         v .parts .2,
-        omega (arith, x),
+        trail .0,
         references-fit list (l + 1) ids (few-children σ l ids c) (written .1),
       );
     }

@@ -14,9 +14,9 @@ use Rattle.tree.specs.Tree.{childrenOf, nodesOf}
 use Rattle.tree.specs.Laws.{Content, content}
 use Rattle.sketch.specs.Cells.{cellsOf}
 use Rattle.setup.specs.Tables.{shinglesOfString}
-use Rattle.trail.specs.Trails.{trailNumber}
 use Rattle.message.specs.Words.{Ref}
 use Rattle.message.specs.Messages.{Msg, openingQuery, nodeQuery, opening, composition, literal, noNode, encode, parse, Valid}
+use Rattle.protocol.specs.Numbers.{stated}
 use Rattle.protocol.specs.Sender.{ruleNumber, composable, refsOf}
 use Rattle.protocol.specs.Receiver.{sessionOf}
 use Rattle.protocol.specs.Calls.{Every}
@@ -36,10 +36,10 @@ unfoldable pub childrenIds : Settings → ℕ → List ℕ → List ℕ
 childrenIds σ l bytes = map blockId (childrenOf σ (l + 1) bytes)
 
 -- The reply for a block: "At level L, or with a trail number above 4,095: type 5. Else type 4, referring to its list." Document 02, request 2:
--- "References now rise by index. Their freedom goes".
+-- "References now rise by index. Their freedom goes"; request 5: a number is omitted where the trail is the only one.
 unfoldable pub blockReply : Settings → List ℕ → (session level id : ℕ) → List ℕ → Bool → Msg
 blockReply σ string n l i bytes true =
-    composition n l i (trailNumber (childrenIds σ l bytes)) (refsOf (shinglesOfString σ string) (l + 1) (childrenIds σ l bytes))
+    composition n l i (stated (childrenIds σ l bytes)) (refsOf (shinglesOfString σ string) (l + 1) (childrenIds σ l bytes))
 blockReply σ string n l i bytes false = literal n l i bytes
 
 -- "it finds its first node of that level and id. None: type 6."
@@ -89,4 +89,4 @@ pub record Genuine (σ : Settings) (string : List ℕ) (session : ℕ) (bytes : 
 abbrev pub OneComposition : Type 0
 OneComposition =
     (σ : Settings) (string : List ℕ) (session : ℕ) (a b : List ℕ) → Genuine σ string session a → Genuine σ string session b
-    → (l i x y : ℕ) (refs refs′ : List Ref) → parse a ≡ some (composition session l i x refs) → parse b ≡ some (composition session l i y refs′) → a ≡ b
+    → (l i : ℕ) (x y : Option ℕ) (refs refs′ : List Ref) → parse a ≡ some (composition session l i x refs) → parse b ≡ some (composition session l i y refs′) → a ≡ b

@@ -13,11 +13,12 @@ use Rattle.shingle.specs.declared.Shingle.{Shingle}
 use Rattle.shingle.specs.Table.{shinglesIn}
 use Rattle.single.specs.Peeling.{rowsIn, listTable}
 use Rattle.sketch.specs.Opening.{Peeled, takenOf, opensTo, newList}
-use Rattle.trail.specs.Trails.{total, trailsOver, orderOf}
+use Rattle.trail.specs.Trails.{total, trailsOver, orderOf, onlyOver}
 use Rattle.message.specs.Words.{Ref}
 use Rattle.message.specs.Messages.{Msg, openingQuery, nodeQuery, opening, composition, literal, noNode, typeOf, encode, parse}
 use Rattle.protocol.specs.Lent.{Lent, refusedBy, withOutput, withShingles}
 use Rattle.protocol.specs.Nodes.{look}
+use Rattle.protocol.specs.Numbers.{meantBy, rightly}
 use Rattle.protocol.specs.Sender.{ruleNumber, Written, unwritten, writing}
 use Rattle.protocol.specs.State.{Pending, pending, State, going, over, running, outstanding}
 
@@ -171,19 +172,21 @@ abbrev pub counts : List Ref → List ℕ
 counts refs = map (λ (r : Ref). r .count) refs
 
 -- "17 for a composition: node's level below L, references in the list at that level plus 1, counts within the list's, their sum k from 1
--- to 32, number at most 4,095, that trail exists, and the pile then within 128?" `rest` is the pile without its top.
-unfoldable pub composes : Settings → List Shingle → (level number : ℕ) → List Ref → (rest : ℕ) → Bool
-composes σ list l number refs rest =
+-- to 32, number at most 4,095, that trail exists, and the pile then within 128?" And is the number carried or omitted as the trails want it?
+-- `trail` is the number if it is there, and `rest` the pile without its top.
+unfoldable pub composes : Settings → List Shingle → (level : ℕ) → (trail : Option ℕ) → List Ref → (rest : ℕ) → Bool
+composes σ list l trail refs rest =
     ltb l (σ .levels)
     && (allNamed list (l + 1) refs
     && (within 1 32 (total (counts refs))
-    && (leb number 4095
-    && (ltb number (length (trailsOver (previouses list refs) (owns list refs) (counts refs)))
-    && leb (rest + total (counts refs)) 128))))
+    && (leb (meantBy trail) 4095
+    && (ltb (meantBy trail) (length (trailsOver (previouses list refs) (owns list refs) (counts refs)))
+    && (rightly trail (onlyOver (previouses list refs) (owns list refs) (counts refs))
+    && leb (rest + total (counts refs)) 128)))))
 
 -- "a composition's trail replaces the node by its children, one level down"
-unfoldable pub children : List Shingle → (level number : ℕ) → List Ref → List Pending
-children list l number refs = map (pending (l + 1)) (orderOf (previouses list refs) (owns list refs) (counts refs) number)
+unfoldable pub children : List Shingle → (level : ℕ) → (trail : Option ℕ) → List Ref → List Pending
+children list l trail refs = map (pending (l + 1)) (orderOf (previouses list refs) (owns list refs) (counts refs) (meantBy trail))
 
 -- The pile without its top.
 unfoldable pub below : List Pending → List Pending
@@ -213,10 +216,10 @@ unfoldable pub act : State → Lent → Msg → Result
 act s m (openingQuery n) = unchanged 11 s m
 act s m (nodeQuery n l i) = unchanged 11 s m
 act s m (opening n rule w p L M q size root cells) = takeOpening s m rule w p L M q size root cells
-act s m (composition n l i number refs) =
+act s m (composition n l i trail refs) =
     takeNode s m
-    (nodeRefusal s m true (composes (s .settings) (shinglesIn (m .shingles)) l number refs (length (below (s .pile)))) [])
-    [] (children (shinglesIn (m .shingles)) l number refs ++ below (s .pile))
+    (nodeRefusal s m true (composes (s .settings) (shinglesIn (m .shingles)) l trail refs (length (below (s .pile)))) [])
+    [] (children (shinglesIn (m .shingles)) l trail refs ++ below (s .pile))
 act s m (literal n l i bytes) = takeNode s m (nodeRefusal s m true true bytes) bytes (below (s .pile))
 act s m (noNode n l i) = takeNode s m (nodeRefusal s m false true []) [] []
 

@@ -22,6 +22,7 @@ use Rattle.protocol.specs.Lent.{Lent, refusedBy}
 use Rattle.node_table.specs.declared.Entry.{Entry}
 use Rattle.node_table.specs.Nodes.{inside, entriesIn, fromFirst}
 use Rattle.protocol.specs.Nodes.{blockIn}
+use Rattle.protocol.specs.Numbers.{stated}
 
 -- "rule (the number 1)"
 abbrev pub ruleNumber : ℕ
@@ -63,12 +64,13 @@ indexed (r ∷ refs) = ltb (r .index) 4096 && indexed refs
 unfoldable pub referable : List Shingle → ℕ → List ℕ → Bool
 referable list l ids = ltb (length (refsOf list l ids)) 33 && indexed (refsOf list l ids)
 
--- "None: type 6. At level L, or with a trail number above 4,095: type 5. Else type 4, referring to its list. Session is copied."
+-- "None: type 6. At level L, or with a trail number above 4,095: type 5. Else type 4, referring to its list. Session is copied." The number is
+-- carried unless the trail is the only one.
 unfoldable pub nodeReply : Settings → List ℕ → List Shingle → (session level id : ℕ) → List Entry → Msg
 nodeReply σ string list n l i [] = noNode n l i
 nodeReply σ string list n l i (e ∷ es) =
     cond (composable σ l (childIds (length string) l es) && referable list (l + 1) (childIds (length string) l es))
-    (composition n l i (trailNumber (childIds (length string) l es)) (refsOf list (l + 1) (childIds (length string) l es)))
+    (composition n l i (stated (childIds (length string) l es)) (refsOf list (l + 1) (childIds (length string) l es)))
     (literal n l i (blockIn string e))
 
 -- "An opening announces the lent string's length and the id of the node table's first entry."

@@ -1,5 +1,5 @@
 -- Each way out of the calls on trails is a case of their definitions.
-use mathlib.Core.Bool.{Bool, true, false}
+use mathlib.Core.Bool.{Bool, true, false, cond}
 use mathlib.Core.List.{List, [], _∷_, _++_}
 use mathlib.Core.Path.{_≡_, refl, sym, ap, _∙_}
 use Prim.Native.Nat.{ℕ, zero, suc, _+_, _*_, _/_, _%_, _^_, _≤_, _<_}
@@ -14,11 +14,12 @@ use Rattle.rows.specs.Rows.{wordsOf}
 use Rattle.rows.proofs.Rows.{length-words}
 use Rattle.tree.specs.Questions.{ask}
 use Rattle.trail.specs.declared.Trail.{Trail}
-use Rattle.trail.specs.Trails.{orderOf}
-use Rattle.trail.specs.Calls.{numberAnswer, orderable, orderAnswer}
-use Rattle.trail.proofs.Answers.{order-accepted}
+use Rattle.trail.specs.Trails.{trailNumber, orderOf, onlyTrail}
+use Rattle.trail.specs.declared.Numbered.{Numbered}
+use Rattle.trail.specs.Calls.{numberable, unnumbered, numberAnswer, orderable, orderAnswer}
+use Rattle.trail.proofs.Answers.{number-small, order-accepted}
 use Rattle.trail.proofs.Orders.{listed-length}
-use Rattle.rcds.specs.Trails.{column, bytesOfIds, trailNumberAnswer, pairsIn, sizeIn, trailOrderRefusal, Ordered}
+use Rattle.rcds.specs.Trails.{column, bytesOfIds, marked, markedNumber, trailNumberAnswer, pairsIn, onlyIn, sizeIn, trailOrderRefusal, Ordered}
 
 column-shift : (n p x : ℕ) (xs : List ℕ) → column n 1 (p + 1) (x ∷ xs) ≡ column n 1 p xs
 unfolding column
@@ -41,20 +42,29 @@ module _ (ids : List ℕ) where
   number-odd h = rw (ne-eqb (length ids % 8) 0 h)
 
   pub number-long : length ids % 8 ≡ 0 → 32 < length ids / 8 → 17 ≡ trailNumberAnswer ids
-  unfolding trailNumberAnswer numberAnswer
+  unfolding trailNumberAnswer numberAnswer numberable marked
   number-long e h =
       let some : ltb 0 (length (wordsOf ids)) ≡ true = lt-ltb 0 (length (wordsOf ids)) (simp length-words (omega arith)) in
       let many : ltb (length (wordsOf ids)) 33 ≡ false = le-ltb (length (wordsOf ids)) 33 (simp length-words (omega arith)) in
       rw (eq-eqb (length ids % 8) 0 e, some, many)
 
-  pub number-read : (r : ℕ) (list : List ℕ) → length ids % 8 ≡ 0 → length ids / 8 ≤ 32 → list ≡ column 32 1 0 (wordsOf ids)
-      → r ≡ numberAnswer (take (length ids / 8) list) → r ≡ trailNumberAnswer ids
+  pub number-read : (r : ℕ) (list : List ℕ) (order : Numbered) → length ids % 8 ≡ 0 → length ids / 8 ≤ 32 → list ≡ column 32 1 0 (wordsOf ids)
+      → order ≡ numberAnswer (take (length ids / 8) list) → r ≡ marked (order .answer) (order .only) → r ≡ trailNumberAnswer ids
   unfolding trailNumberAnswer
-  number-read r list e h l a =
+  number-read r list order e h l a m =
       let rows : take (length ids / 8) list ≡ wordsOf ids =
       ap (take (length ids / 8)) l
       ∙ (ap (λ (n : ℕ). take n (column 32 1 0 (wordsOf ids))) (sym (length-words ids)) ∙ column-front (wordsOf ids) 32 (simp length-words h)) in
-      a ∙ (ap numberAnswer rows ∙ rw (eq-eqb (length ids % 8) 0 e))
+      m ∙ (ap markedNumber (a ∙ ap numberAnswer rows) ∙ rw (eq-eqb (length ids % 8) 0 e))
+
+-- What numbering answers is below the mark.
+pub number-low : (xs : List ℕ) (order : Numbered) → order ≡ numberAnswer xs → order .answer < 2 ^ 33
+unfolding numberAnswer
+number-low xs order e = go (numberable xs) (ap (λ (r : Numbered). r .answer) e)
+  where
+    go : (t : Bool) → order .answer ≡ cond t (record { answer = 2 ^ 32 + trailNumber xs; only = onlyTrail xs }) unnumbered .answer → order .answer < 2 ^ 33
+    go true a = omega (arith, a, number-small xs)
+    go false a = omega (arith, a)
 
 pub length-column : (n step p : ℕ) (ws : List ℕ) → length (column n step p ws) ≡ n
 unfolding column
@@ -128,13 +138,20 @@ module _ (table before : List ℕ) (number : ℕ) where
           let list = orderOf (pairsIn table .previous) (pairsIn table .own) (pairsIn table .count) number in
           rw (size-is orders) (rw (is, orders) (take-at list _ (sizeIn table) ids-count))
 
-      pub order-written : (after : List ℕ) → trail .k ≤ length before / 8 → after ≡ bytesOfIds (take (trail .k) (trail .ids)) ++ drop (trail .k * 8) before
-          → Ordered table number before after (trail .answer)
+      only-is : trail .only ≡ onlyIn table
+      unfolding orderAnswer
+      only-is = rw (is, orders)
+
+      pub order-low : trail .answer < 2 ^ 33
+      order-low = omega (arith, answer-is, size-is orders, order-small)
+
+      pub order-written : (after : List ℕ) (r : ℕ) → trail .k ≤ length before / 8 → after ≡ bytesOfIds (take (trail .k) (trail .ids)) ++ drop (trail .k * 8) before
+          → r ≡ marked (trail .answer) (trail .only) → Ordered table number before after r
       unfolding ask
-      order-written after h e =
+      order-written after r h e m =
           let accepted : trailOrderRefusal table number (length before) ≡ 0 =
           asked true orders ∙ rw (le-leb (sizeIn table * 8) (length before) (omega (arith, size-is orders))) in
           record {
-            answer = answer-is ∙ rw accepted;
+            answer = m ∙ ((λ i. marked (answer-is i) (only-is i)) ∙ rw accepted);
             ids = e ∙ rw (ids-are, size-is orders, accepted);
           }

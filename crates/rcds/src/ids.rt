@@ -1,10 +1,10 @@
-// Ids and pairs in lent bytes: rows of 64 bits, most significant byte first.
+// Ids and pairs in lent bytes, rows of 64 bits, most significant byte first; and the mark of an answer.
 ghost use mathlib.Core.List.{_++_};
 ghost use mathlib.Core.Path.{_≡_};
-ghost use Prim.Native.Nat.{_*_, _≤_};
+ghost use Prim.Native.Nat.{_*_, _^_, _≤_, _<_};
 ghost use lib.ListN.{length, take, drop};
 ghost use Rattle.rows.specs.Rows.{wordsOf};
-ghost use Rattle.rcds.specs.Trails.{column, bytesOfIds};
+ghost use Rattle.rcds.specs.Trails.{marked, column, bytesOfIds};
 
 // 32 rows of a table, from a place on and then every `step`; 0 past the table's end.
 pub fn read_column(table: &[u8], step: usize, place: usize) -> [u64; 32]
@@ -35,4 +35,15 @@ pub fn write_ids(list: [u64; 32], k: usize, ids: &mut [u8])
         rows::store(ids, i, id);
         i += 1;
     }
+}
+
+// An answer, marked where its trail is the only one.
+pub fn mark(answer: u64, only: bool) -> u64
+    requires { ⌜ answer < 2 ^ 33 ⌝ }
+    ensures { λ r. ⌜ r ≡ marked answer only ⌝ }
+{
+    if only {
+        return 8589934592 + answer;
+    }
+    answer
 }

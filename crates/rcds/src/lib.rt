@@ -57,7 +57,8 @@ pub extern "C" fn rcds_crossed(
     crossing::crossed(string, nodes, start, size, crossed)
 }
 
-// The number of the order that the ids give, each 8 bytes: 2^32 more than how many trails over its pairs come before it, or 17.
+// The number of the order that the ids give, each 8 bytes: 2^32 more than how many trails over its pairs come before it, and 2^33 more
+// where it is the only one; or 17.
 #[no_mangle]
 pub extern "C" fn rcds_trail_number(ids: &[u8]) -> u64
     ensures { λ r. ⌜ r ≡ trailNumberAnswer (now (ids .entry)) ⌝ }
@@ -70,10 +71,12 @@ pub extern "C" fn rcds_trail_number(ids: &[u8]) -> u64
         return 17;
     }
     let list = ids::read_column(ids, 1, 0);
-    trail::number(&list[..k])
+    let order = trail::number(&list[..k]);
+    ids::mark(order.answer, order.only)
 }
 
-// Writes the order of a number over pairs: entries of three rows, previous id, own id, count. Asked are 17 and 20.
+// Writes the order of a number over pairs: entries of three rows, previous id, own id, count. Asked are 17 and 20. The answer is 2^33
+// more where it is the only one.
 #[no_mangle]
 pub extern "C" fn rcds_trail_order(pairs: &[u8], number: u64, ids: &mut [u8]) -> u64
     ensures { λ r. ⌜ Ordered (now (pairs .entry)) number (now (ids .entry)) (now (ids .exit)) r ⌝ }
@@ -104,7 +107,7 @@ pub extern "C" fn rcds_trail_order(pairs: &[u8], number: u64, ids: &mut [u8]) ->
     }
     let list = trail.ids;
     ids::write_ids(list, k, ids);
-    trail.answer
+    ids::mark(trail.answer, trail.only)
 }
 
 // The type of a well-formed message, 2^32 more, or 10.

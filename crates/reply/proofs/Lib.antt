@@ -2,5 +2,5 @@
 mod Searching
 mod Collecting
 mod Referring
-mod Composed
+mod Planning
 mod Replying

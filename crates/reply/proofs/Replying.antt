@@ -16,7 +16,7 @@ use Rattle.shingle.specs.Table.{shinglesIn}
 use Rattle.sketch.specs.Sums.{along}
 use Rattle.single.specs.Peeling.{rowsIn}
 use Rattle.setup.specs.Questions.{tablesFit, lentRefusal}
-use Rattle.message.specs.Messages.{Msg, openingQuery, nodeQuery, opening, literal, noNode, encode, parse}
+use Rattle.message.specs.Messages.{Msg, openingQuery, nodeQuery, opening, composition, literal, noNode, encode, parse}
 use Rattle.message.specs.Reading.{Reads}
 use Rattle.message.specs.declared.Message.{Message}
 use Rattle.message.specs.declared.Message.the-variants.{Bad, OpeningQuery, NodeQuery, Opening, Composition, Literal, NoNode}
@@ -24,12 +24,17 @@ use Rattle.message_writer.specs.Writing.{Written, firstRows}
 use Rattle.protocol.specs.Lent.{lent}
 use Rattle.node_table.specs.Nodes.{inside, entriesIn, placeOf, sought}
 use Rattle.protocol.specs.Nodes.{blockIn}
-use Rattle.protocol.specs.Sender.{composable, referable, nodeReply, openingReply, replyTo, unwritten, writing, replying, hearing, reply}
+use Rattle.protocol.specs.Numbers.{stated}
+use Rattle.protocol.specs.Sender.{composable, refsOf, referable, nodeReply, openingReply, replyTo, unwritten, writing, replying, hearing, reply}
 use Rattle.reply.specs.declared.query.Query.{Query}
 use Rattle.reply.specs.Reply.{replyOf, Replied}
 use Rattle.reply.proofs.Searching.{none-asked, first-asked}
-use Rattle.reply.specs.Parts.{Attempted, compositionOf, idsBelow, Composing, openingOf, nodeReplyOf, queryOf}
-use Rattle.reply.proofs.Composed.{retold}
+use Rattle.reply.specs.declared.plan.Plan.{Plan}
+use Rattle.reply.specs.Parts.{idsBelow, composedBy, NodePlanned, openingOf, nodeReplyOf, queryOf}
+
+-- A message written is any message equal to it written.
+retold : {b a : List ℕ} {m m′ : Msg} {r : ℕ} → m ≡ m′ → Written b a (encode m) r → Written b a (encode m′) r
+retold e w = rw (← e) w
 
 -- The rows of the cells, one by one.
 rows-along : (count i : ℕ) (rows : List ℕ) → firstRows count i rows ≡ along count i (λ (k : ℕ). getD rows k 0)
@@ -64,21 +69,6 @@ module _ (string nodes : List ℕ) (k start size : ℕ) (s : start ≡ startAt n
       let less : start + size - start ≡ sizeAt nodes k = omega arith in
       retold (λ j. literal n l i (take (less j) (drop (s j) string))) w
 
-positive : (t : Bool) (n r : ℕ) → r ≡ cond t (2 ^ 32 + n) 20 → r ≡ 0 → ⊥
-positive true n r e z = omega arith
-positive false n r e z = omega arith
-
--- A message that is the first of two if the first can be written, which was tried.
-first-case : (p : Bool) (m₁ m₂ m : Msg) {b a : List ℕ} {r : ℕ} → m ≡ cond p m₁ m₂ → Attempted p b a m₁ r → (r ≡ 0 → ⊥) → Written b a (encode m) r
-first-case true m₁ m₂ m e c used = retold (sym e) (c .yes refl)
-first-case false m₁ m₂ m e c used = absurd (used (c .no refl .0))
-
-second-case : (p : Bool) (m₁ m₂ m : Msg) {b a a′ : List ℕ} {r r′ : ℕ} → m ≡ cond p m₁ m₂ → Attempted p b a m₁ r → r ≡ 0 → Written a a′ (encode m₂) r′
-    → Written b a′ (encode m) r′
-second-case true m₁ m₂ m {b} {a} {a′} {r} e c z w =
-    absurd (positive (leb (length (encode m₁)) (length b)) (length (encode m₁)) r (c .yes refl .answer-is) z)
-second-case false m₁ m₂ m e c z w = retold (sym e) (rw (← c .no refl .1) w)
-
 -- The reply to a node query.
 module _ (σ : Settings) (string nodes shingles : List ℕ) (n l i k : ℕ)
     (is : k ≡ placeOf (sought (length string) l l i) (entriesIn nodes)) where
@@ -89,18 +79,22 @@ module _ (σ : Settings) (string nodes shingles : List ℕ) (n l i k : ℕ)
 
   reply-is : (idAt nodes k ≡ 0 → ⊥) → nodeReplyOf σ string nodes shingles n l i
       ≡ cond (composable σ l (idsBelow nodes (length string) l k) && referable (shinglesIn shingles) (l + 1) (idsBelow nodes (length string) l k))
-      (compositionOf shingles n l i (idsBelow nodes (length string) l k)) (literal n l i (blockIn string (entryAt nodes k)))
-  unfolding nodeReplyOf nodeReply compositionOf idsBelow
+      (composition n l i (stated (idsBelow nodes (length string) l k)) (refsOf (shinglesIn shingles) (l + 1) (idsBelow nodes (length string) l k)))
+      (literal n l i (blockIn string (entryAt nodes k)))
+  unfolding nodeReplyOf nodeReply idsBelow
   reply-is h = rw (first-asked nodes (length string) l i k is h)
 
-  pub composition-written : {b a : List ℕ} {r : ℕ} → (idAt nodes k ≡ 0 → ⊥) → Composing σ (length string) nodes shingles n l i k b a r → (r ≡ 0 → ⊥)
-      → Written b a (encode (nodeReplyOf σ string nodes shingles n l i)) r
-  composition-written h c used = first-case _ _ _ _ (reply-is h) c used
+  module _ (found : idAt nodes k ≡ 0 → ⊥) (p : Plan) (planned : NodePlanned σ (length string) nodes shingles l k p) where
+    pub composition-written : {b a : List ℕ} {r : ℕ} → p .composed ≡ true → Written b a (encode (composedBy p n l i)) r
+        → Written b a (encode (nodeReplyOf σ string nodes shingles n l i)) r
+    unfolding composedBy
+    composition-written e w =
+        retold
+        ((λ j. composition n l i (planned .trail-is e j) (planned .references-are e j)) ∙ sym (reply-is found ∙ rw (sym (planned .composed-is) ∙ e) refl)) w
 
-  pub literal-written : {b a a′ : List ℕ} {r r′ : ℕ} → (idAt nodes k ≡ 0 → ⊥) → Composing σ (length string) nodes shingles n l i k b a r → r ≡ 0
-      → Written a a′ (encode (literal n l i (blockIn string (entryAt nodes k)))) r′
-      → Written b a′ (encode (nodeReplyOf σ string nodes shingles n l i)) r′
-  literal-written h c z w = second-case _ _ _ _ (reply-is h) c z w
+    pub literal-written : {b a : List ℕ} {r : ℕ} → p .composed ≡ false → Written b a (encode (literal n l i (blockIn string (entryAt nodes k)))) r
+        → Written b a (encode (nodeReplyOf σ string nodes shingles n l i)) r
+    literal-written e w = retold (sym (reply-is found ∙ rw (sym (planned .composed-is) ∙ e) refl)) w
 
 -- A message written is what the definition writes.
 written-answer : {b a : List ℕ} {r : ℕ} (bytes : List ℕ) → Written b a bytes r → r ≡ writing bytes b .answer
@@ -154,7 +148,7 @@ module _ (σ : Settings) (string nodes shingles cells message b : List ℕ) (ref
     unheard (OpeningQuery n) q read is one two = absurd (one (ap (λ x. x .kind) is))
     unheard (NodeQuery n l i) q read is one two = absurd (two (ap (λ x. x .kind) is))
     unheard (Opening n rule w p L M q′ len root at) q read is one two = rw is (refusing 11 _ (read .message) refl)
-    unheard (Composition n l i x at count) q read is one two = rw is (refusing 11 _ (read .message) refl)
+    unheard (Composition n l i numbered x at count) q read is one two = rw is (refusing 11 _ (read .message) refl)
     unheard (Literal n l i at count) q read is one two = rw is (refusing 11 _ (read .message) refl)
     unheard (NoNode n l i) q read is one two = rw is (refusing 11 _ (read .message) refl)
 
@@ -174,7 +168,7 @@ module _ (σ : Settings) (string nodes shingles cells message b : List ℕ) (ref
     opening-replied Bad q read is one w = absurd (omega (arith, one, ap (λ x. x .kind) is))
     opening-replied (NodeQuery n l i) q read is one w = absurd (omega (arith, one, ap (λ x. x .kind) is))
     opening-replied (Opening n rule w′ p L M q′ len root at) q read is one w = absurd (omega (arith, one, ap (λ x. x .kind) is))
-    opening-replied (Composition n l i x at count) q read is one w = absurd (omega (arith, one, ap (λ x. x .kind) is))
+    opening-replied (Composition n l i numbered x at count) q read is one w = absurd (omega (arith, one, ap (λ x. x .kind) is))
     opening-replied (Literal n l i at count) q read is one w = absurd (omega (arith, one, ap (λ x. x .kind) is))
     opening-replied (NoNode n l i) q read is one w = absurd (omega (arith, one, ap (λ x. x .kind) is))
 
@@ -186,6 +180,6 @@ module _ (σ : Settings) (string nodes shingles cells message b : List ℕ) (ref
     node-replied Bad q read is two w = absurd (omega (arith, two, ap (λ x. x .kind) is))
     node-replied (OpeningQuery n) q read is two w = absurd (omega (arith, two, ap (λ x. x .kind) is))
     node-replied (Opening n rule w′ p L M q′ len root at) q read is two w = absurd (omega (arith, two, ap (λ x. x .kind) is))
-    node-replied (Composition n l i x at count) q read is two w = absurd (omega (arith, two, ap (λ x. x .kind) is))
+    node-replied (Composition n l i numbered x at count) q read is two w = absurd (omega (arith, two, ap (λ x. x .kind) is))
     node-replied (Literal n l i at count) q read is two w = absurd (omega (arith, two, ap (λ x. x .kind) is))
     node-replied (NoNode n l i) q read is two w = absurd (omega (arith, two, ap (λ x. x .kind) is))

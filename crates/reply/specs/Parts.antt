@@ -11,14 +11,17 @@ use Rattle.shingle.specs.Table.{shinglesIn}
 use Rattle.trail.specs.Trails.{trailNumber}
 use Rattle.trail.specs.Calls.{nonzero}
 use Rattle.message.specs.Words.{Ref}
-use Rattle.message.specs.Messages.{Msg, composition, encode}
+use Rattle.message.specs.Messages.{Msg, composition}
+use Rattle.message.specs.Reading.{statedBy}
 use Rattle.message.specs.declared.Message.{Message}
 use Rattle.message.specs.declared.Message.the-variants.{Bad, OpeningQuery, NodeQuery, Opening, Composition, Literal, NoNode}
-use Rattle.message_writer.specs.Writing.{Written, paired}
+use Rattle.message_writer.specs.Writing.{paired}
 use Rattle.protocol.specs.Lent.{lent}
 use Rattle.node_table.specs.declared.Entry.{Entry}
 use Rattle.node_table.specs.Nodes.{inside, entriesFrom, entriesIn, fromFirst}
+use Rattle.protocol.specs.Numbers.{stated}
 use Rattle.protocol.specs.Sender.{childIds, composable, refsOf, indexed, referable, nodeReply, openingReply}
+use Rattle.reply.specs.declared.plan.Plan.{Plan}
 use Rattle.reply.specs.declared.query.Query.{Query}
 
 -- What a message that was read asks: 1 for the opening, 2 for a node; else the number of the question that refuses it.
@@ -30,7 +33,7 @@ queryOf Bad = query 10 0 0 0
 queryOf (OpeningQuery n) = query 1 n 0 0
 queryOf (NodeQuery n l i) = query 2 n l i
 queryOf (Opening n rule w p L M q len root at) = query 11 0 0 0
-queryOf (Composition n l i x at count) = query 11 0 0 0
+queryOf (Composition n l i numbered x at count) = query 11 0 0 0
 queryOf (Literal n l i at count) = query 11 0 0 0
 queryOf (NoNode n l i) = query 11 0 0 0
 
@@ -59,27 +62,38 @@ pub record Referred (all : List Ref) (count : ℕ) (indexes counts : List ℕ) :
   pub many : 32 < count → (ltb (length all) 33 && indexed all) ≡ false
 
 -- The order has a number of at most 4,095.
-unfoldable pub numbered : List ℕ → Bool
-numbered ids = ltb 0 (length ids) && (ltb (length ids) 33 && (nonzero ids && ltb (trailNumber ids) 4096))
+unfoldable pub hasNumber : List ℕ → Bool
+hasNumber ids = ltb 0 (length ids) && (ltb (length ids) 33 && (nonzero ids && ltb (trailNumber ids) 4096))
 
--- A message written if it can be; else 0, and the buffer as it was.
-pub record Attempted (possible : Bool) (before after : List ℕ) (m : Msg) (r : ℕ) : Type 0 where
-  pub yes : possible ≡ true → Written before after (encode m) r
-  pub no : possible ≡ false → (r ≡ 0) × (after ≡ before)
+-- The references of a plan stand in their places, and which they are.
+pub record Writable (p : Plan) : Type 0 where
+  pub few : p .references .count ≤ 32
+  pub indexes-room : length (p .references .indexes) ≡ 32
+  pub counts-room : length (p .references .counts) ≡ 32
 
--- The composition of children with these ids, of a node of level l.
-unfoldable pub compositionOf : List ℕ → (session l i : ℕ) → List ℕ → Msg
-compositionOf shingles n l i ids = composition n l i (trailNumber ids) (refsOf (shinglesIn shingles) (l + 1) ids)
+unfoldable pub referencesOf : Plan → List Ref
+referencesOf p = paired (take (p .references .count) (p .references .indexes)) (take (p .references .count) (p .references .counts))
+
+-- The composition that a plan says.
+unfoldable pub composedBy : Plan → (session l i : ℕ) → Msg
+composedBy p n l i = composition n l i (statedBy (p .numbered) (p .number)) (referencesOf p)
+
+-- What is to be written of a node: the composition of children with these ids by these references, if it can be; else the node's bytes.
+pub record Planned (possible : Bool) (ids : List ℕ) (refs : List Ref) (p : Plan) : Type 0 where
+  pub composed-is : p .composed ≡ possible
+  pub trail-is : p .composed ≡ true → statedBy (p .numbered) (p .number) ≡ stated ids
+  pub references-are : p .composed ≡ true → referencesOf p ≡ refs
+  pub writable : p .composed ≡ true → Writable p
 
 -- The ids of the children of the node of entry k, which has level l.
 unfoldable pub idsBelow : List ℕ → (n l k : ℕ) → List ℕ
 idsBelow nodes n l k = childIds n l (entriesFrom nodes (length nodes / 16 - (k + 1)) (k + 1))
 
--- The composition of the node of entry k.
-abbrev pub Composing : Settings → ℕ → (nodes shingles : List ℕ) → (session l i k : ℕ) → (before after : List ℕ) → ℕ → Type 0
-Composing σ n nodes shingles session l i k before after r =
-    Attempted (composable σ l (idsBelow nodes n l k) && referable (shinglesIn shingles) (l + 1) (idsBelow nodes n l k)) before after
-    (compositionOf shingles session l i (idsBelow nodes n l k)) r
+-- What is to be written of the node of entry k, which has level l.
+abbrev pub NodePlanned : Settings → ℕ → (nodes shingles : List ℕ) → (l k : ℕ) → Plan → Type 0
+NodePlanned σ n nodes shingles l k p =
+    Planned (composable σ l (idsBelow nodes n l k) && referable (shinglesIn shingles) (l + 1) (idsBelow nodes n l k)) (idsBelow nodes n l k)
+    (refsOf (shinglesIn shingles) (l + 1) (idsBelow nodes n l k)) p
 
 -- The opening, and the reply to a node query.
 unfoldable pub openingOf : Settings → (string nodes cells : List ℕ) → ℕ → Msg

@@ -1,7 +1,7 @@
 // The sender's reply to a message, over a string and the tables that it is lent.
 mod child;
-mod composition;
 mod node;
+mod plan;
 mod query;
 mod reference;
 

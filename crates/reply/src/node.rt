@@ -7,8 +7,9 @@ ghost use Rattle.message_writer.specs.Writing.{Written};
 ghost use Rattle.node_table.specs.Entries.{entryAt};
 ghost use Rattle.node_table.specs.Nodes.{inside};
 ghost use Rattle.protocol.specs.Nodes.{blockIn};
-ghost use Rattle.reply.specs.Parts.{openingOf, nodeReplyOf};
-use crate::composition::compose;
+ghost use Rattle.reply.specs.Parts.{Writable, composedBy, openingOf, nodeReplyOf};
+use crate::plan::Plan;
+use crate::plan::plan_node;
 use tree::Settings;
 
 // Writes the opening of a session.
@@ -59,6 +60,26 @@ fn write_bytes(
     message_writer::write_literal(buffer, session, level, id, &string[start..start + length])
 }
 
+// Writes the composition that is planned.
+fn write_references(plan: Plan, session: u64, level: u64, id: u64, buffer: &mut [u8]) -> u64
+    requires { ⌜ Writable plan ⌝ }
+    ensures { λ r. ⌜ Written (now (buffer .entry)) (now (buffer .exit)) (encode (composedBy plan session level id)) r ⌝ }
+{
+    let count = plan.references.count;
+    let indexes = plan.references.indexes;
+    let counts = plan.references.counts;
+    message_writer::write_composition(
+        buffer,
+        session,
+        level,
+        id,
+        plan.numbered,
+        plan.number,
+        &indexes[..count],
+        &counts[..count],
+    )
+}
+
 // Writes what answers a node query.
 pub fn node_reply(
     settings: Settings,
@@ -78,19 +99,9 @@ pub fn node_reply(
     if node_table::node_id(nodes, k) == 0 {
         return message_writer::write_none(buffer, session, level, id);
     }
-    let answer = compose(
-        settings,
-        size,
-        nodes,
-        shingles,
-        session,
-        level,
-        id,
-        k,
-        buffer,
-    );
-    if answer != 0 {
-        return answer;
+    let planned = plan_node(settings, size, nodes, shingles, level, k);
+    if planned.composed {
+        return write_references(planned, session, level, id, buffer);
     }
     write_bytes(string, nodes, session, level, id, k, buffer)
 }

@@ -10,6 +10,7 @@ use lib.ListN.{length, take}
 use Rattle.tree.specs.Questions.{ask}
 use Rattle.shingle.specs.Table.{shinglesIn}
 use Rattle.message.specs.Words.{Ref}
+use Rattle.message.specs.Reading.{referencesAt}
 use Rattle.message.specs.Parts.{referencesIn}
 use Rattle.protocol.specs.Lent.{Lent, lent}
 use Rattle.protocol.specs.Nodes.{look}
@@ -30,44 +31,45 @@ use Rattle.heard.specs.declared.Said.{Said}
 use Rattle.heard.specs.Heard.{messageIn}
 use Rattle.advance.specs.Advance.{Ended, Advanced}
 use Rattle.taking.specs.Steps.{ContentSaid, NodeTaken}
-use Rattle.taking.proofs.Node.{ending, refused-node, act-composition, node-advanced, content-refusal, pile-below}
+use Rattle.taking.proofs.Node.{trailOf, ending, refused-node, act-composition, node-advanced, content-refusal, pile-below}
 
 abbrev refsOf : List ℕ → List Ref
 refsOf message = referencesIn (messageIn message)
 
 module _ {s : Receiver} {said : Said} {message output : List ℕ} (c : ContentSaid s said message output) (four : said .kind ≡ 4)
     (shingles : List ℕ) {r : Children}
-    (found : r ≡ childrenOf (s .settings) (shinglesIn shingles) (said .level) (said .number) (refsIn message (said .count)) (s .waiting - 1)) where
+    (found : r ≡ childrenOf (s .settings) (shinglesIn shingles) (said .level) (trailOf said) (refsIn message (referencesAt (said .numbered)) (said .count))
+    (s .waiting - 1)) where
   abbrev composed : Bool
-  composed = composes (s .settings) (shinglesIn shingles) (said .level) (said .number) (refsOf message) (s .waiting - 1)
+  composed = composes (s .settings) (shinglesIn shingles) (said .level) (trailOf said) (refsOf message) (s .waiting - 1)
 
-  pub answer-is : Answered (s .settings) (shinglesIn shingles) (said .level) (said .number) (refsOf message) (s .waiting - 1) r
+  pub answer-is : Answered (s .settings) (shinglesIn shingles) (said .level) (trailOf said) (refsOf message) (s .waiting - 1) r
   answer-is =
       let heard = c .node .heard .composed four in
-      answered message _ _ _ _ (refsOf message) (heard .0) (said .count) (heard .1) (s .settings) (shinglesIn shingles) (s .waiting - 1) r found
+      answered message _ _ _ (said .numbered) (said .number) (refsOf message) (heard .0) (said .count) (heard .1) (s .settings) (shinglesIn shingles) (s .waiting - 1) r found
 
   -- What the composition does, by 17 and 18.
   act-is : (string nodes cells : List ℕ) → act (stateOf s) (lent string nodes shingles cells output) (messageIn message)
       ≡ takeNode (stateOf s) (lent string nodes shingles cells output) (ask composed 17 (ask (leb (s .built + 0) (s .size)) 18 0)) []
-      (children (shinglesIn shingles) (said .level) (said .number) (refsOf message) ++ pileOf (s .waiting - 1) (s .pile))
+      (children (shinglesIn shingles) (said .level) (trailOf said) (refsOf message) ++ pileOf (s .waiting - 1) (s .pile))
   act-is string nodes cells =
       let m : Lent = lent string nodes shingles cells output in
       let left : length (below (stateOf s .pile)) ≡ s .waiting - 1 = ap length (pile-below c) ∙ length-pile (s .waiting - 1) (s .pile) in
       act-composition (c .node) four m
       ∙ (ap (λ (k : ℕ). takeNode (stateOf s) m
-      (nodeRefusal (stateOf s) m true (composes (s .settings) (shinglesIn shingles) (said .level) (said .number) (refsOf message) k) [])
-      [] (children (shinglesIn shingles) (said .level) (said .number) (refsOf message) ++ below (stateOf s .pile))) left
-      ∙ (ap (λ (k : ℕ). takeNode (stateOf s) m k [] (children (shinglesIn shingles) (said .level) (said .number) (refsOf message) ++ below (stateOf s .pile)))
+      (nodeRefusal (stateOf s) m true (composes (s .settings) (shinglesIn shingles) (said .level) (trailOf said) (refsOf message) k) [])
+      [] (children (shinglesIn shingles) (said .level) (trailOf said) (refsOf message) ++ below (stateOf s .pile))) left
+      ∙ (ap (λ (k : ℕ). takeNode (stateOf s) m k [] (children (shinglesIn shingles) (said .level) (trailOf said) (refsOf message) ++ below (stateOf s .pile)))
       (content-refusal c string nodes shingles cells composed [])
       ∙ ap (λ (x : List Pending). takeNode (stateOf s) m (ask composed 17 (ask (leb (s .built + 0) (s .size)) 18 0)) []
-      (children (shinglesIn shingles) (said .level) (said .number) (refsOf message) ++ x)) (pile-below c)))
+      (children (shinglesIn shingles) (said .level) (trailOf said) (refsOf message) ++ x)) (pile-below c)))
 
   no-by : (string nodes : List ℕ) {output′ : List ℕ} {t : Taken} (k : ℕ) → 12 ≤ k → ask composed 17 (ask (leb (s .built + 0) (s .size)) 18 0) ≡ k
       → Ended s k output output′ t → NodeTaken s string nodes shingles message output output′ t
   no-by string nodes k far e ended =
       ending k far ended (λ cells.
       let m : Lent = lent string nodes shingles cells output in
-      let pile : List Pending = children (shinglesIn shingles) (said .level) (said .number) (refsOf message) ++ pileOf (s .waiting - 1) (s .pile) in
+      let pile : List Pending = children (shinglesIn shingles) (said .level) (trailOf said) (refsOf message) ++ pileOf (s .waiting - 1) (s .pile) in
       act-is string nodes cells
       ∙ (ap (λ (x : ℕ). takeNode (stateOf s) m x [] pile) e ∙ refused-node (stateOf s) m k [] pile (λ z. omega (arith, far, z))))
 
@@ -80,13 +82,13 @@ module _ {s : Receiver} {said : Said} {message output : List ℕ} (c : ContentSa
       no-by string nodes 17 (omega arith) (rw f refl) ended
 
   module _ (yes-17 : r .composed ≡ true) where
-    given : Composed (shinglesIn shingles) (said .level) (said .number) (refsOf message) (s .waiting - 1) r
+    given : Composed (shinglesIn shingles) (said .level) (trailOf said) (refsOf message) (s .waiting - 1) r
     given = answer-is .gives yes-17
 
     -- The node's level is below L.
     pub composed-low : said .level < s .settings .levels
     composed-low =
-        passed (s .settings) (shinglesIn shingles) (said .level) (said .number) (refsOf message) (s .waiting - 1) (sym (answer-is .is) ∙ yes-17) .level
+        passed (s .settings) (shinglesIn shingles) (said .level) (trailOf said) (refsOf message) (s .waiting - 1) (sym (answer-is .is) ∙ yes-17) .level
 
     -- 18 refuses: more is built than announced.
     pub composed-long : {string nodes output′ : List ℕ} {t : Taken} → s .size < s .built → Ended s 18 output output′ t
@@ -109,7 +111,7 @@ module _ {s : Receiver} {said : Said} {message output : List ℕ} (c : ContentSa
         let f : composed ≡ true = sym (answer-is .is) ∙ yes-17 in
         let g : leb (s .built + 0) (s .size) ≡ true = le-leb (s .built + 0) (s .size) (omega (arith, h)) in
         let pile : pileOf (s .waiting - 1 + r .count) places
-        ≡ children (shinglesIn shingles) (said .level) (said .number) (refsOf message) ++ pileOf (s .waiting - 1) (s .pile) =
+        ≡ children (shinglesIn shingles) (said .level) (trailOf said) (refsOf message) ++ pileOf (s .waiting - 1) (s .pile) =
         pushed .pile (given .few) (given .room) ∙ ap (λ (x : List Pending). x ++ pileOf (s .waiting - 1) (s .pile)) (given .pending-are) in
         act-is string nodes cells
         ∙ rw (f, g, le-leb _ _ (c .room), le-leb _ _ h, le-leb _ 128 (given .room))

@@ -13,6 +13,7 @@ use Rattle.tree.specs.Questions.{ask}
 use Rattle.shingle.specs.Table.{shinglesIn}
 use Rattle.shingle.proofs.PairOrder.{and-true}
 use Rattle.message.specs.Messages.{Msg, composition, literal}
+use Rattle.message.specs.Reading.{statedBy}
 use Rattle.message.specs.Parts.{referencesIn, bytesIn}
 use Rattle.protocol.specs.Lent.{Lent, lent}
 use Rattle.protocol.specs.State.{State, Pending}
@@ -80,13 +81,17 @@ three k low high four five six =
       ]
     ]
 
+-- The trail number of a composition, if it is there.
+abbrev pub trailOf : Said → Option ℕ
+trailOf said = statedBy (said .numbered) (said .number)
+
 module _ {s : Receiver} {said : Said} {message : List ℕ} (n : NodeSaid s said message) where
   -- What a message of each type does.
   pub act-composition : said .kind ≡ 4 → (m : Lent) → act (stateOf s) m (messageIn message)
       ≡ takeNode (stateOf s) m
       (nodeRefusal (stateOf s) m true
-      (composes (s .settings) (shinglesIn (m .shingles)) (said .level) (said .number) (referencesIn (messageIn message)) (length (below (stateOf s .pile)))) [])
-      [] (children (shinglesIn (m .shingles)) (said .level) (said .number) (referencesIn (messageIn message)) ++ below (stateOf s .pile))
+      (composes (s .settings) (shinglesIn (m .shingles)) (said .level) (trailOf said) (referencesIn (messageIn message)) (length (below (stateOf s .pile)))) [])
+      [] (children (shinglesIn (m .shingles)) (said .level) (trailOf said) (referencesIn (messageIn message)) ++ below (stateOf s .pile))
   unfolding act given stateOf
   act-composition e m = ap (λ (x : Option Msg). act (stateOf s) m (given x)) (n .heard .composed e .0)
 

@@ -47,6 +47,7 @@ fn compose(
         shingles,
         message,
         said.level,
+        said.numbered,
         said.number,
         said.count,
         rest,

@@ -15,3 +15,5 @@ pub mod Numbering
 pub mod Ranking
 pub mod Answers
 pub mod Orders
+pub mod Only
+pub mod Calls

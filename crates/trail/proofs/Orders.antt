@@ -1,15 +1,12 @@
 -- The laws of the two definitions, for whoever uses them: the listed trails are exactly the sequences with the table's pairs, they rise,
 -- and number and order are inverse to each other.
 use mathlib.Core.Bool.{true}
-use mathlib.Core.List.{List, [], _++_, List·Memᴰ}
-use mathlib.Core.Path.{_≡_, refl, sym, ap, subst, _∙_}
-use Prim.Native.Nat.{ℕ, _+_, _-_, _^_, _<_, _≤_, min}
+use mathlib.Core.List.{List, [], List·Memᴰ}
+use mathlib.Core.Path.{_≡_, refl, ap, subst, _∙_}
+use Prim.Native.Nat.{ℕ, _<_, _≤_, min}
 use native.Mathlib.Omega.{arith}
-use lib.ListN.{length, replicate}
+use lib.ListN.{length}
 use Rattle.trail.specs.Trails.{Multiset, pairsFrom, pairsOf, total, rising, trailsFrom, before, countBefore, trailsLike, trailNumber, trailsOver, orderOf}
-use Rattle.trail.specs.Calls.{nonzero, numberAnswer, orderable, orderAnswer}
-use Rattle.trail.specs.declared.Pairs.{Pairs}
-use Rattle.trail.proofs.Answers.{number-accepted, number-taken, order-accepted, order-taken}
 use Rattle.trail.proofs.Every.{every-at, rising-at}
 use Rattle.trail.proofs.Ids.{rising-up}
 use Rattle.trail.proofs.Inverse.{count-at, at-count}
@@ -49,15 +46,18 @@ module _ (ps os cs : List ℕ) (long : (length ps ≡ length cs) × (length os �
   pairs-listed xs e = at-count (trails-rise (total cs) 0 (pairsOf ps os cs) (rising-up os))
       (subst (λ (n : ℕ). List·Memᴰ xs (trailsFrom n (rising os) 0 (pairsOf ps os cs))) (trail-length 0 xs sized e) (complete (rising os) 0 xs (pairsOf ps os cs) (owns-cover ps os cs) e))
 
+  -- So its number, which is no greater than that place, is a trail's.
+  pub number-listed : (xs : List ℕ) → pairsFrom 0 xs ≡ pairsOf ps os cs → trailNumber xs < length (trailsOver ps os cs)
+  unfolding trailNumber
+  number-listed xs e = let same = ap (countBefore xs) (same-trails xs e) in omega (arith, same, pairs-listed xs e .0)
+
   -- Number, then order: a number up to 4,095 gives the sequence again.
   pub order-of-number : (xs : List ℕ) → pairsFrom 0 xs ≡ pairsOf ps os cs → trailNumber xs ≤ 4095 →
       (trailNumber xs < length (trailsOver ps os cs)) × (orderOf ps os cs (trailNumber xs) ≡ xs)
   unfolding trailNumber
   order-of-number xs e h =
-      let p = pairs-listed xs e in
       let same : min 4096 (countBefore xs (trailsLike xs)) ≡ countBefore xs (trailsOver ps os cs) = let q = ap (countBefore xs) (same-trails xs e) in omega arith in
-      let l : countBefore xs (trailsOver ps os cs) < length (trailsOver ps os cs) = p .0 in
-      (omega arith, ap (orderOf ps os cs) same ∙ p .1)
+      (number-listed xs e, ap (orderOf ps os cs) same ∙ pairs-listed xs e .1)
 
   -- Order, then number: the number again, up to 4,096.
   pub number-of-order : (i : ℕ) → i < length (trailsOver ps os cs) → trailNumber (orderOf ps os cs i) ≡ min 4096 i
@@ -66,31 +66,3 @@ module _ (ps os cs : List ℕ) (long : (length ps ≡ length cs) × (length os �
     where
       place-of : (i : ℕ) → i < length (trailsOver ps os cs) → countBefore (orderOf ps os cs i) (trailsOver ps os cs) ≡ i
       place-of i h = unfold trailsOver orderOf in count-at (trails-rise (total cs) 0 (pairsOf ps os cs) (rising-up os)) i h
-
--- The same for the two calls. What `number` accepts with a number up to 4,095, `order` gives back over any table of the same pairs.
-pub order-after-number : (xs : List ℕ) (pairs : Pairs) → (length (pairs .previous) ≡ length (pairs .count)) × (length (pairs .own) ≡ length (pairs .count)) →
-    pairsFrom 0 xs ≡ pairsOf (pairs .previous) (pairs .own) (pairs .count) → (n : ℕ) → numberAnswer xs ≡ 2 ^ 32 + n → n ≤ 4095 →
-    orderAnswer pairs n ≡ record { answer = 2 ^ 32 + length xs; k = length xs; ids = xs ++ replicate (32 - length xs) 0 }
-order-after-number xs pairs long e n a h =
-    let q = number-accepted xs n a in
-    let size : length xs ≡ total (pairs .count) = trail-length 0 xs (sized (pairs .previous) (pairs .own) (pairs .count) long) e in
-    let some : 0 < length xs = q .0 in
-    let few : length xs < 33 = q .1 in
-    let numbered : trailNumber xs ≡ n = q .3 in
-    let o = order-of-number (pairs .previous) (pairs .own) (pairs .count) long xs e (omega arith) in
-    let found : n < length (trailsOver (pairs .previous) (pairs .own) (pairs .count)) = subst (λ (m : ℕ). m < length (trailsOver (pairs .previous) (pairs .own) (pairs .count))) numbered (o .0) in
-    let again : orderOf (pairs .previous) (pairs .own) (pairs .count) n ≡ xs = subst (λ (m : ℕ). orderOf (pairs .previous) (pairs .own) (pairs .count) m ≡ xs) numbered (o .1) in
-    sym (order-taken pairs n _ (omega arith) (omega arith) (omega arith) found (ap (λ (m : ℕ). 2 ^ 32 + m) size) size (λ i. sym again i ++ replicate (32 - size i) 0))
-
--- What `order` gives, if no id is 0, `number` numbers the same.
-pub number-after-order : (pairs : Pairs) → (length (pairs .previous) ≡ length (pairs .count)) × (length (pairs .own) ≡ length (pairs .count)) →
-    (n : ℕ) → orderable pairs n ≡ true → nonzero (orderOf (pairs .previous) (pairs .own) (pairs .count) n) ≡ true →
-    numberAnswer (orderOf (pairs .previous) (pairs .own) (pairs .count) n) ≡ 2 ^ 32 + n
-number-after-order pairs long n o z =
-    let q = order-accepted pairs n o in
-    let some : 0 < total (pairs .count) = q .0 in
-    let few : total (pairs .count) < 33 = q .1 in
-    let small : n < 4096 = q .2 in
-    let size = listed-length (pairs .previous) (pairs .own) (pairs .count) long n (q .3) in
-    let again = number-of-order (pairs .previous) (pairs .own) (pairs .count) long n (q .3) in
-    sym (number-taken (orderOf (pairs .previous) (pairs .own) (pairs .count) n) n (let e : n ≡ trailNumber (orderOf (pairs .previous) (pairs .own) (pairs .count) n) = omega arith in e) (omega arith) (omega arith) z)

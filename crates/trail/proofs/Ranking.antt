@@ -36,7 +36,7 @@ module _ (xs ps os cs₀ : List ℕ) (n : Numberable xs ps os cs₀) where
         count = rw (n .table .count, length-append (replicate {A = ℕ} (length xs) 1) (replicate (32 - length xs) 0), length-replicate {A = ℕ} (length xs) 1, zeros) (omega arith);
       }
 
-  pairs-first : pairsOf ps os cs₀ ≡ pairsFrom 0 xs
+  pub pairs-first : pairsOf ps os cs₀ ≡ pairsFrom 0 xs
   pairs-first = rw (n .table .previous, n .table .own, n .table .count) (pairs-chain 0 xs (replicate (32 - length xs) 0) (replicate (32 - length xs) 0) (32 - length xs))
 
   pub total-first : total cs₀ ≡ length xs

@@ -90,3 +90,11 @@ trailsOver previouses owns counts = trailsFrom (total counts) (rising owns) 0 (p
 -- The trail of a number over the multiset that a table gives; no ids if there is none.
 unfoldable pub orderOf : List ℕ → List ℕ → List ℕ → ℕ → List ℕ
 orderOf previouses owns counts number = getD (trailsOver previouses owns counts) number []
+
+-- Document 02, request 5: "The trail search now also says whether its trail is the only one": of an order over its own pairs, and over the
+-- multiset that a table gives.
+unfoldable pub onlyTrail : List ℕ → Bool
+onlyTrail xs = eqb (length (trailsLike xs)) 1
+
+unfoldable pub onlyOver : List ℕ → List ℕ → List ℕ → Bool
+onlyOver previouses owns counts = eqb (length (trailsOver previouses owns counts)) 1

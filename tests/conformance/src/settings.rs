@@ -22,6 +22,18 @@ pub fn most_nodes() -> Settings {
     }
 }
 
+/// Settings with which short strings of few symbols have blocks of a few bytes at the last level: then a node has
+/// few trails, and the first of several is no rare one.
+pub fn shortest_blocks(random: &mut Random) -> Settings {
+    let (fan_out, levels) = (random.between(2, 8), random.one_of(&[1, 1, 1, 2]));
+    Settings {
+        window: 2,
+        fan_out,
+        levels,
+        nominal: fan_out.pow(levels as u32),
+    }
+}
+
 /// The combination of this number.
 pub fn edge_settings(place: usize) -> Settings {
     let (fan_out, levels) = (FAN_OUTS[place / 8 % 8], LEVELS[place / 64 % 8]);

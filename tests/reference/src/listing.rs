@@ -6,9 +6,10 @@ use crate::message::{parse, Body, Message};
 /// The line of a message: the word `read`; 2^32 plus the type, or 10; and what the message says. Of a
 /// query or a none: session, level, id (of an opening query the session alone). Of a literal then: how
 /// many bytes it has, and FNV-1a of 128 bytes 170 with the literal, or what fits of it, at their
-/// front. Of a composition then: number, how many references, index and count of each. Of an opening:
-/// session, rule, w, p, L, M, q, length, root id, and the first 960 values of its cells in one number
-/// (from 0 on, twice the last and the next value, modulo 2^64).
+/// front. Of a composition then: 1 and the number that it carries, or 0 and 0 where it omits it; how many
+/// references, index and count of each. Of an opening: session, rule, w, p, L, M, q, length, root id, and
+/// the first 960 values of its cells in one number (from 0 on, twice the last and the next value, modulo
+/// 2^64).
 pub fn read_line(bytes: &[u8]) -> String {
     match parse(bytes) {
         None => line("read", &[10]),
@@ -58,7 +59,8 @@ fn fields(message: &Message) -> Vec<u64> {
                 session,
                 *level as u64,
                 *id,
-                *number as u64,
+                number.is_some() as u64,
+                number.unwrap_or(0) as u64,
                 references.len() as u64,
             ];
             for reference in references {

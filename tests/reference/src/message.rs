@@ -19,11 +19,13 @@ pub enum Body {
     /// "3 opening"
     Opening(Opening),
     /// "4 composition: level, id, trail number, references ..., each index once"; "References now
-    /// rise by index" (document 02, request 2).
+    /// rise by index" (document 02, request 2); "A composition whose trail is the only one omits the
+    /// number word, and one with others carries it" (request 5). Which of them it may be is asked by 17,
+    /// so both are well formed.
     Composition {
         level: u32,
         id: u64,
-        number: u32,
+        number: Option<u32>,
         references: Vec<Reference>,
     },
     /// "5 literal: level, id, bytes"
@@ -99,11 +101,12 @@ fn parse_body(message_type: u32, between: &[Word]) -> Option<Body> {
             id: parse_value(id)?,
         }),
         (3, _) => parse_opening(between).map(Body::Opening),
-        (4, [Word::Number(level), a, b, c, Word::Number(number), references @ ..]) => {
+        (4, [Word::Number(level), a, b, c, rest @ ..]) => {
+            let (number, references) = parse_number(rest);
             Some(Body::Composition {
                 level: *level,
                 id: parse_value(&[a.clone(), b.clone(), c.clone()])?,
-                number: *number,
+                number,
                 references: parse_references(references)?,
             })
         }
@@ -117,6 +120,15 @@ fn parse_body(message_type: u32, between: &[Word]) -> Option<Body> {
             id: parse_value(id)?,
         }),
         _ => None,
+    }
+}
+
+/// The trail number, if the first word is one, and the words after it: "Writing and reading a message must
+/// still agree for both lengths." (document 02, request 5)
+fn parse_number(words: &[Word]) -> (Option<u32>, &[Word]) {
+    match words {
+        [Word::Number(number), rest @ ..] => (Some(*number), rest),
+        _ => (None, words),
     }
 }
 
@@ -218,7 +230,7 @@ fn body_words(body: &Body) -> Vec<Word> {
             references,
         } => {
             let mut words = node_words(*level, *id);
-            words.push(Word::Number(*number));
+            words.extend(number.map(Word::Number));
             words.extend(
                 references
                     .iter()

@@ -14,12 +14,26 @@ use crate::row::number;
 use crate::settings::Settings;
 use crate::shingle::shingles;
 use crate::sketch::sketch;
-use crate::trail::{number_of_order, order_of_number, Pair, MOST_IDS};
+use crate::trail::{is_only_trail, number_of_order, order_of_number, Pair, MOST_IDS};
 use crate::tree::tree;
 use crate::{cell_table, node_table, sender, shingle_table, strata};
 
 /// From this number on an answer says "accepted".
 pub const ACCEPTED: u64 = 1 << 32;
+
+/// What both calls about trails add to an accepted answer where "its trail is the only one" (document 02,
+/// request 5).
+pub const ONLY_TRAIL: u64 = 1 << 33;
+
+/// What `RCDS_COUNT` has of an accepted answer: its low 32 bits.
+pub fn count(answer: u64) -> u64 {
+    answer % ACCEPTED
+}
+
+/// What `RCDS_ONLY_TRAIL` has of it.
+pub fn says_only(answer: u64) -> bool {
+    answer / ONLY_TRAIL % 2 == 1
+}
 
 /// `rcds_tree`: the tree of `string` into the node table. Asks 1 to 4, 6, 7 and 8, in this order.
 ///
@@ -82,16 +96,29 @@ fn rows(bytes: &[u8]) -> Option<Vec<u64>> {
     (bytes.len() % 8 == 0).then(|| bytes.chunks(8).map(number).collect())
 }
 
-/// `rcds_trail_number`: the trail number of an order of ids. Asks 17.
+/// An accepted answer about the trail of these ids: the number or the count, and whether it is the only
+/// one over its pairs.
+fn of_trail(ids: &[u64], small: u64) -> u64 {
+    match is_only_trail(ids) {
+        true => ACCEPTED + ONLY_TRAIL + small,
+        false => ACCEPTED + small,
+    }
+}
+
+/// `rcds_trail_number`: the trail number of an order of ids, and whether its trail is the only one. Asks
+/// 17.
 pub fn rcds_trail_number(ids: &[u8]) -> u64 {
-    match rows(ids).and_then(|ids| number_of_order(&ids)) {
-        Some(number) => ACCEPTED + number,
+    let Some(ids) = rows(ids) else {
+        return 17;
+    };
+    match number_of_order(&ids) {
+        Some(number) => of_trail(&ids, number),
         None => 17,
     }
 }
 
-/// `rcds_trail_order`: the ids of the trail of this number over pairs with counts. Asks 17, then
-/// 20. Ids that are not written, and all of them after a no, are untouched.
+/// `rcds_trail_order`: the ids of the trail of this number over pairs with counts, and whether it is the
+/// only one. Asks 17, then 20. Ids that are not written, and all of them after a no, are untouched.
 pub fn rcds_trail_order(pairs: &[u8], number: u64, ids: &mut [u8]) -> u64 {
     let order = entries(pairs).and_then(|entries| order_of_number(&entries, number));
     let Some(order) = order else {
@@ -103,7 +130,7 @@ pub fn rcds_trail_order(pairs: &[u8], number: u64, ids: &mut [u8]) -> u64 {
     for (bytes, id) in ids.chunks_exact_mut(ID_BYTES).zip(&order) {
         bytes.copy_from_slice(&id.to_be_bytes());
     }
-    ACCEPTED + order.len() as u64
+    of_trail(&order, order.len() as u64)
 }
 
 /// Whole entries, at most 32 of them.

@@ -10,7 +10,7 @@ use crate::reply::RULE;
 use crate::settings::Settings;
 use crate::shingle::Shingle;
 use crate::shingle_table;
-use crate::trail::order_of_number;
+use crate::trail::{has_only_one, multiset_of_entries, order_of_number};
 use crate::tree::Node;
 use crate::word::Reference;
 
@@ -301,12 +301,14 @@ fn take_node_reply(
 }
 
 /// "17 for a composition: node's level below L, references in the list at that level plus 1, counts
-/// within the list's, their sum k from 1 to 32, number at most 4,095, that trail exists"
+/// within the list's, their sum k from 1 to 32, number at most 4,095, that trail exists"; "A composition
+/// that omits the number where two trails exist, or carries one where only one does, fails question 17."
+/// (document 02, request 5)
 fn trail(
     state: &Receiver,
     lent: &Lent,
     node: &Pending,
-    number: u32,
+    number: Option<u32>,
     references: &[Reference],
 ) -> Option<Vec<u64>> {
     if node.level >= state.settings.levels {
@@ -322,7 +324,12 @@ fn trail(
         }
         pairs.push(((shingle.previous, shingle.own), count));
     }
-    order_of_number(&pairs, u64::from(number))
+    let only = has_only_one(&multiset_of_entries(&pairs)?);
+    match number {
+        None if only => order_of_number(&pairs, 0),
+        Some(number) if !only => order_of_number(&pairs, u64::from(number)),
+        _ => None,
+    }
 }
 
 /// "While the top has an id of an own node at any level, the first such node's bytes are copied to

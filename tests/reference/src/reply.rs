@@ -7,7 +7,7 @@ use crate::opening::MOST_SHINGLES;
 use crate::rcds::ACCEPTED;
 use crate::settings::Settings;
 use crate::shingle::children;
-use crate::trail::{multiset, number_of_order, pairs, MOST_NUMBER};
+use crate::trail::{is_only_trail, multiset, number_of_order, pairs, MOST_NUMBER};
 use crate::tree::Node;
 use crate::word::Reference;
 
@@ -95,11 +95,15 @@ fn node_reply(settings: &Settings, lent: &Lent, level: u32, id: u64) -> Body {
 /// freedom goes, and a setup's node has at most one genuine composition a session." (document 02,
 /// request 2)
 ///
+/// No number where their trail is the only one: "A composition whose trail is the only one omits the
+/// number word, and one with others carries it." (request 5)
+///
 /// Nothing where the number is above 4,095. Over tables that no setup left, also nothing where the
 /// node has no number, or a pair has no index of 12 bits.
-fn composition(lent: &Lent, nodes: &[Node], k: usize) -> Option<(u32, Vec<Reference>)> {
+fn composition(lent: &Lent, nodes: &[Node], k: usize) -> Option<(Option<u32>, Vec<Reference>)> {
     let ids: Vec<u64> = children(nodes, k).iter().map(|child| child.id).collect();
     let number = number_of_order(&ids).filter(|number| *number <= MOST_NUMBER)?;
+    let carried = (!is_only_trail(&ids)).then_some(number as u32);
     let list = lent.shingle_list();
     let mut references = Vec::new();
     for ((previous, own), count) in multiset(&pairs(&ids)) {
@@ -111,5 +115,5 @@ fn composition(lent: &Lent, nodes: &[Node], k: usize) -> Option<(u32, Vec<Refere
         });
     }
     references.sort_by_key(|reference| reference.index);
-    Some((number as u32, references))
+    Some((carried, references))
 }

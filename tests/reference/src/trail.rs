@@ -122,6 +122,19 @@ pub fn trail(over: &Multiset, number: u128) -> Option<Vec<u64>> {
     Some(ids)
 }
 
+/// "whether its trail is the only one" (document 02, request 5): whether there is exactly one over the
+/// multiset. Where there is none, none is the only one.
+///
+/// All trails are counted, and none is searched for.
+pub fn has_only_one(over: &Multiset) -> bool {
+    trails_from(0, over) == 1
+}
+
+/// The same of an order's own pairs, over which it is a trail itself. At most 32 ids.
+pub fn is_only_trail(ids: &[u64]) -> bool {
+    has_only_one(&multiset(&pairs(ids)))
+}
+
 /// "Numbering an order takes 1 to 32 nonzero ids, else 17, and answers 4,096 for every number
 /// above 4,095." Nothing stands for 17.
 pub fn number_of_order(ids: &[u64]) -> Option<u64> {
@@ -131,13 +144,12 @@ pub fn number_of_order(ids: &[u64]) -> Option<u64> {
     Some(trails_before(ids).min(u128::from(MOST_NUMBER) + 1) as u64)
 }
 
-/// The order of a number over pairs with counts: "their sum k from 1 to 32, number at most 4,095,
-/// that trail exists", else nothing, which stands for 17.
+/// The multiset of pairs with counts: "their sum k from 1 to 32", else nothing.
 ///
 /// Entries come in any order, and the counts of equal pairs add up.
-pub fn order_of_number(entries: &[(Pair, u64)], number: u64) -> Option<Vec<u64>> {
+pub fn multiset_of_entries(entries: &[(Pair, u64)]) -> Option<Multiset> {
     let sum: u128 = entries.iter().map(|&(_, count)| u128::from(count)).sum();
-    if !(1..=MOST_IDS as u128).contains(&sum) || number > MOST_NUMBER {
+    if !(1..=MOST_IDS as u128).contains(&sum) {
         return None;
     }
     let mut over = Multiset::new();
@@ -146,5 +158,15 @@ pub fn order_of_number(entries: &[(Pair, u64)], number: u64) -> Option<Vec<u64>>
             *over.entry(pair).or_default() += count;
         }
     }
-    trail(&over, u128::from(number))
+    Some(over)
+}
+
+/// The order of a number over pairs with counts: "their sum k from 1 to 32, number at most 4,095,
+/// that trail exists", else nothing, which stands for 17.
+pub fn order_of_number(entries: &[(Pair, u64)], number: u64) -> Option<Vec<u64>> {
+    let over = multiset_of_entries(entries)?;
+    match number <= MOST_NUMBER {
+        true => trail(&over, u128::from(number)),
+        false => None,
+    }
 }

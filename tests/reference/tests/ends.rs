@@ -24,6 +24,11 @@ const WIDTH: u64 = 64;
 /// Two blocks: the first two bytes, and the other four.
 const SIX: [u8; 6] = [0x00, 0x03, 0x00, 0x00, 0x01, 0x00];
 
+/// Five blocks: four of a byte each, a a b a, and the other three. Their pairs are those of a b a a and the
+/// other three too. In the first string a b a a comes after the true order, in the second before it.
+const FIRST_OF_TWO: [u8; 7] = [0x01, 0x01, 0x00, 0x01, 0x00, 0x01, 0x00];
+const SECOND_OF_TWO: [u8; 7] = [0x03, 0x03, 0x01, 0x03, 0x01, 0x03, 0x00];
+
 fn memory(string: &[u8]) -> Lent {
     Lent {
         string: string.to_vec(),
@@ -58,7 +63,8 @@ fn literal(level: u32, id: u64, bytes: &[u8]) -> Vec<u8> {
     message(Body::Literal { level, id, bytes })
 }
 
-fn composition(id: u64, number: u32, references: &[(u32, u32)]) -> Vec<u8> {
+/// A composition that carries this number, or omits it.
+fn composition(id: u64, number: Option<u32>, references: &[(u32, u32)]) -> Vec<u8> {
     let reference = |&(index, count)| Reference { index, count };
     message(Body::Composition {
         level: 0,
@@ -82,9 +88,14 @@ fn replied(lent: &Lent, query: &[u8]) -> Vec<u8> {
 /// A receiver of session 5 with own bytes ff ff ff that has taken the opening of the six bytes, and
 /// six bytes of output and two more.
 fn opened() -> (Receiver, Lent, Vec<u8>) {
+    opened_of(&SIX)
+}
+
+/// The same of another string.
+fn opened_of(string: &[u8]) -> (Receiver, Lent, Vec<u8>) {
     let (mut state, mut lent) = receiver(&[0xff; 3], 5);
     let mut output = vec![9; 8];
-    let opening = replied(&sender(&SIX), &message(Body::OpeningQuery));
+    let opening = replied(&sender(string), &message(Body::OpeningQuery));
     let answer = take(&mut state, &mut lent, &opening, &mut output);
     assert_eq!((answer, &output), (Answer::Waiting, &vec![9; 8]));
     (state, lent, output)
@@ -131,7 +142,7 @@ fn replies_over_six_bytes() {
     }));
     assert_eq!(replied(&lent, &message(Body::OpeningQuery)), opening);
     // The list: the root's pair, then 0 and the left block, then the left block and the right one.
-    let order = composition(root, 0, &[(1, 1), (2, 1)]);
+    let order = composition(root, None, &[(1, 1), (2, 1)]);
     assert_eq!(replied(&lent, &query(0, root)), order);
     assert_eq!(replied(&lent, &query(1, left)), literal(1, left, &SIX[..2]));
     assert_eq!(
@@ -167,8 +178,43 @@ fn references_count_these_children_only() {
     // "References now rise by index" (document 02, request 2).
     references.sort();
     let root = block_id(&[7; 6]);
-    let order = composition(root, 0, &references);
+    let order = composition(root, None, &references);
     assert_eq!(replied(&lent, &query(0, root)), order);
+}
+
+/// The references of a string's blocks, rising by index, with their counts.
+fn references_of(string: &[u8]) -> Vec<(u32, u32)> {
+    let lent = sender(string);
+    let list = lent.shingle_list();
+    let places = (0..list.len()).filter(|&k| list[k].level == 1);
+    places.map(|k| (k as u32, list[k].count as u32)).collect()
+}
+
+/// "A composition whose trail is the only one omits the number word, and one with others carries it."
+/// (document 02, request 5)
+#[test]
+fn a_number_where_there_are_others() {
+    let cases: [(&[u8], Option<u32>); 8] = [
+        (&FIRST_OF_TWO, Some(0)),
+        (&SECOND_OF_TWO, Some(1)),
+        (&SIX, None),
+        // One block, of some bytes or of none; equal blocks, and then one that is longer.
+        (&[1, 2], None),
+        (&[], None),
+        (&[7; 4], None),
+        (&[7; 6], None),
+        // The first of the two without its end is a, a and the other three.
+        (&FIRST_OF_TWO[..5], None),
+    ];
+    for (string, number) in cases {
+        let root = block_id(string);
+        let order = composition(root, number, &references_of(string));
+        assert_eq!(
+            replied(&sender(string), &query(0, root)),
+            order,
+            "{string:?}"
+        );
+    }
 }
 
 /// The answer of a reply that must leave its buffer as it is.
@@ -360,8 +406,8 @@ fn questions_10_and_11() {
 }
 
 /// The composition of the six bytes with references that do not rise: exchanged, or one a second time,
-/// with the same and another count, beside itself and apart.
-fn not_rising() -> [Vec<u8>; 6] {
+/// with the same and another count, beside itself and apart. Without a number, and with one.
+fn not_rising() -> Vec<Vec<u8>> {
     let references: [&[(u32, u32)]; 6] = [
         &[(2, 1), (1, 1)],
         &[(1, 1), (1, 1)],
@@ -370,7 +416,9 @@ fn not_rising() -> [Vec<u8>; 6] {
         &[(1, 1), (2, 2), (2, 1)],
         &[(1, 1), (2, 1), (1, 1)],
     ];
-    references.map(|references| composition(block_id(&SIX), 0, references))
+    let formed =
+        |references| [None, Some(0)].map(|number| composition(block_id(&SIX), number, references));
+    references.into_iter().flat_map(formed).collect()
 }
 
 /// "A sender of the old kind is met by number 10 when its order falls." (document 02, request 2) "A no
@@ -413,7 +461,7 @@ fn references_that_do_not_rise_between_9_and_11() {
         state.stage = Stage::Ended;
         refused_by(9, (state, lent, output), &order);
     }
-    let rising = composition(block_id(&SIX), 0, &[(1, 1), (2, 1)]);
+    let rising = composition(block_id(&SIX), None, &[(1, 1), (2, 1)]);
     refused_by(11, composed(), &rising);
 }
 
@@ -431,7 +479,7 @@ fn a_sender_meets_references_that_do_not_rise_by_10() {
             &[(1, 1), (2, 1)],
             &[(1, 2), (4_095, 1)],
         ] {
-            let rising = composition(block_id(&SIX), 0, references);
+            let rising = composition(block_id(&SIX), None, references);
             assert_eq!(refused(&SMALLEST, WIDTH, &lent, &rising, bytes), 11);
         }
     }
@@ -523,28 +571,29 @@ fn questions_13_15_and_16_of_a_node_reply() {
 #[test]
 fn question_17() {
     let root = block_id(&SIX);
-    let refused = |number: u32, references: &[(u32, u32)]| {
-        refused_by(17, opened(), &composition(root, number, references));
+    // With a number and without it.
+    let refused = |references: &[(u32, u32)]| {
+        for number in [None, Some(0), Some(1), Some(4_096)] {
+            refused_by(17, opened(), &composition(root, number, references));
+        }
     };
-    refused(0, &[]);
-    refused(0, &[(0, 1)]);
-    refused(0, &[(1, 1), (3, 1)]);
-    refused(0, &[(1, 1), (2, 2)]);
-    refused(0, &[(2, 1)]);
-    refused(1, &[(1, 1), (2, 1)]);
-    refused(4_096, &[(1, 1), (2, 1)]);
+    refused(&[]);
+    refused(&[(0, 1)]);
+    refused(&[(1, 1), (3, 1)]);
+    refused(&[(1, 1), (2, 2)]);
+    refused(&[(2, 1)]);
     // At level L.
     let left = block_id(&SIX[..2]);
     let reference = Reference { index: 1, count: 1 };
     let body = Body::Composition {
         level: 1,
         id: left,
-        number: 0,
+        number: None,
         references: vec![reference],
     };
     refused_by(17, composed(), &message(body));
     // Two children in place of one node, on a pile that is full.
-    let order = composition(root, 0, &[(1, 1), (2, 1)]);
+    let order = composition(root, None, &[(1, 1), (2, 1)]);
     let (mut state, mut lent, mut output) = opened();
     let below = Pending { level: 1, id: 1 };
     state.pile.splice(0..0, vec![below; 127]);
@@ -556,6 +605,90 @@ fn question_17() {
     );
     assert_eq!(state.pile.len(), 128);
     assert_eq!(state.pile[127], Pending { level: 1, id: left });
+}
+
+/// "A composition that ... carries one where only one does, fails question 17." (document 02, request 5)
+#[test]
+fn a_number_where_one_trail_exists() {
+    let root = block_id(&SIX);
+    for number in [0, 1, 2, 4_095, 4_096, (1 << 28) - 1] {
+        let order = composition(root, Some(number), &[(1, 1), (2, 1)]);
+        assert_eq!(rcds_message_type(&order), ACCEPTED + 4);
+        refused_by(17, opened(), &order);
+        assert_eq!(refused(&SMALLEST, WIDTH, &sender(&SIX), &order, 200), 11);
+    }
+    let order = composition(root, None, &[(1, 1), (2, 1)]);
+    let (mut state, mut lent, mut output) = opened();
+    let answer = take(&mut state, &mut lent, &order, &mut output);
+    assert_eq!(answer, Answer::Waiting);
+}
+
+/// "A composition that omits the number where two trails exist ... fails question 17."
+#[test]
+fn no_number_where_two_trails_exist() {
+    for (string, number) in [(FIRST_OF_TWO, 0), (SECOND_OF_TWO, 1)] {
+        let (root, references) = (block_id(&string), references_of(&string));
+        let formed = |number: Option<u32>| composition(root, number, &references);
+        refused_by(17, opened_of(&string), &formed(None));
+        for other in [2, 3, 4_095, 4_096] {
+            refused_by(17, opened_of(&string), &formed(Some(other)));
+        }
+        // Either trail is taken, and the true one leads to the string.
+        for taken in [0, 1] {
+            let (mut state, mut lent, mut output) = opened_of(&string);
+            let answer = take(&mut state, &mut lent, &formed(Some(taken)), &mut output);
+            assert_eq!(answer, Answer::Waiting);
+            let ids: Vec<u64> = state.pile.iter().rev().map(|node| node.id).collect();
+            let [a, b] = [&string[..1], &string[2..3]].map(block_id);
+            let order = match taken == number {
+                true => [a, a, b, a],
+                false => [a, b, a, a],
+            };
+            assert_eq!(ids[..4], order);
+        }
+    }
+}
+
+/// Where no trail exists, 17 with a number and without it; a second number is 10, before 17.
+#[test]
+fn numbers_where_no_trail_exists_and_two_numbers() {
+    let root = block_id(&FIRST_OF_TWO);
+    let references = references_of(&FIRST_OF_TWO);
+    for number in [None, Some(0), Some(1)] {
+        // Without the pair that starts from 0.
+        let order = composition(root, number, &references[1..]);
+        refused_by(17, opened_of(&FIRST_OF_TWO), &order);
+    }
+    for (string, number) in [(&FIRST_OF_TWO[..], 0), (&SIX, 0)] {
+        let mut order = composition(block_id(string), Some(number), &references_of(string));
+        let again = order[20..24].to_vec();
+        order.splice(20..20, again);
+        let words = order.len() / 4;
+        order[4 * words - 1] = words as u8;
+        assert_eq!(rcds_message_type(&order), 10);
+        refused_by(10, opened_of(string), &order);
+        assert_eq!(refused(&SMALLEST, WIDTH, &sender(string), &order, 200), 10);
+    }
+}
+
+/// A session of each of the two, to its end.
+#[test]
+fn sessions_of_two_trails() {
+    for string in [FIRST_OF_TWO, SECOND_OF_TWO] {
+        let (mut state, mut lent, mut output) = opened_of(&string);
+        let theirs = sender(&string);
+        let mut answer = Answer::Waiting;
+        while answer == Answer::Waiting {
+            let query = encode(&outstanding(&state).expect("the session goes on"));
+            answer = take(
+                &mut state,
+                &mut lent,
+                &replied(&theirs, &query),
+                &mut output,
+            );
+        }
+        assert_eq!((answer, &output[..7]), (Answer::Handed(7), &string[..]));
+    }
 }
 
 #[test]

@@ -35,18 +35,27 @@ fn opening(width: u32) -> Message {
     }))
 }
 
+/// Both forms of a composition: "Writing and reading a message must still agree for both lengths."
+/// (document 02, request 5)
+const FORMS: [Option<u32>; 2] = [Some(4_095), None];
+
 fn composition(indexes: &[u32]) -> Message {
+    formed(FORMS[0], indexes)
+}
+
+/// A composition of these indexes that carries this number, or omits it.
+fn formed(number: Option<u32>, indexes: &[u32]) -> Message {
     let pairs: Vec<(u32, u32)> = indexes.iter().map(|&index| (index, 1)).collect();
-    counted(&pairs)
+    counted(number, &pairs)
 }
 
 /// A composition of these indexes with their counts, in this order.
-fn counted(pairs: &[(u32, u32)]) -> Message {
+fn counted(number: Option<u32>, pairs: &[(u32, u32)]) -> Message {
     let reference = |&(index, count): &(u32, u32)| Reference { index, count };
     with(Body::Composition {
         level: 0,
         id: ID,
-        number: 4_095,
+        number,
         references: pairs.iter().map(reference).collect(),
     })
 }
@@ -71,6 +80,10 @@ fn messages() -> Vec<Message> {
         composition(&[]),
         composition(&[0, 3, 7, 4_095]),
         composition(&(0..4_096).collect::<Vec<_>>()),
+        formed(None, &[]),
+        formed(None, &[4_095]),
+        formed(None, &[0, 3, 7, 4_095]),
+        formed(None, &(0..4_096).collect::<Vec<_>>()),
         literal(0),
         literal(1),
         literal(2),
@@ -223,14 +236,23 @@ fn first_part_at_most_255() {
     assert!(parse(&bytes(&words)).is_some());
 }
 
+/// Whether the word stands where a composition has its number or its first reference, and is one that may
+/// stand there: the number with the kind of a reference, or the other way round.
+fn may_be_either(message: &Message, place: usize, word: u32) -> bool {
+    let composition = matches!(message.body, Body::Composition { .. });
+    let first = matches!(read(word), Some(Word::Number(_) | Word::Reference(_)));
+    composition && place == 5 && first
+}
+
 #[test]
 fn kinds_in_their_order() {
     for message in messages() {
         let written = words(&message);
         for (place, &word) in written.iter().enumerate().take(70) {
             for kind in 0..16 {
-                if kind != word >> 28 {
-                    refused_with(&message, place, kind << 28 | word % (1 << 28));
+                let other = kind << 28 | word % (1 << 28);
+                if kind != word >> 28 && !may_be_either(&message, place, other) {
+                    refused_with(&message, place, other);
                 }
             }
         }
@@ -267,16 +289,78 @@ fn numbers_are_any_28_bits() {
     assert!(parse(&bytes(&words)).is_some());
 }
 
+/// "omits the number word" (document 02, request 5): one word fewer, and the end says so.
+#[test]
+fn both_lengths_of_a_composition() {
+    let node = [
+        0x1400_0005,
+        0x2000_0000,
+        0x3000_0001,
+        0x3020_3040,
+        0x3506_0708,
+    ];
+    let references = [0x4000_0241, 0x4000_0281];
+    let carries = [&node[..], &[0x2000_0fff], &references, &[0x6000_0009]].concat();
+    let omits = [&node[..], &references, &[0x6000_0008]].concat();
+    for (number, expected) in FORMS.into_iter().zip([carries, omits]) {
+        let message = formed(number, &[9, 10]);
+        assert_eq!(words(&message), expected);
+        assert_eq!(parse(&bytes(&expected)), Some(message));
+    }
+    // Without references too, and whatever the number is.
+    for number in [None, Some(0), Some(1), Some(4_096), Some((1 << 28) - 1)] {
+        let message = formed(number, &[]);
+        assert_eq!(words(&message).len(), 6 + usize::from(number.is_some()));
+        assert_eq!(parse(&encode(&message)), Some(message));
+    }
+}
+
+/// A composition with one more word at a place before its end.
+fn with_word(message: &Message, place: usize, word: u32) -> Vec<u8> {
+    between(message, |all| all.insert(place, word))
+}
+
+/// A number stands after the id, once, or nowhere: a second one is met by 10, and so is one anywhere else.
+#[test]
+fn one_number_after_the_id() {
+    for indexes in [&[][..], &[9], &[9, 10, 11]] {
+        let (carries, omits) = (formed(Some(7), indexes), formed(None, indexes));
+        for number in [0x2000_0000, 0x2000_0007, 0x2000_1000] {
+            for place in 5..=6 + indexes.len() {
+                let twice = with_word(&carries, place, number);
+                assert_eq!(rcds_message_type(&twice), 10, "{number:08x} at {place}");
+            }
+            for place in (0..5).chain(6..=5 + indexes.len()) {
+                let elsewhere = with_word(&omits, place, number);
+                assert_eq!(rcds_message_type(&elsewhere), 10, "{number:08x} at {place}");
+            }
+            let expected = formed(Some(number % (1 << 28)), indexes);
+            assert_eq!(parse(&with_word(&omits, 5, number)), Some(expected));
+        }
+        assert_eq!(
+            parse(&between(&carries, |all| {
+                all.remove(5);
+            })),
+            Some(omits)
+        );
+    }
+}
+
 #[test]
 fn references() {
-    for count in [0, 33, 63] {
-        refused_with(&composition(&[9]), 6, 0x4000_0000 | 9 << 6 | count);
+    for (number, first) in FORMS.into_iter().zip([6, 5]) {
+        for count in [0, 33, 63] {
+            let word = 0x4000_0000 | 9 << 6 | count;
+            refused_with(&formed(number, &[9]), first, word);
+        }
+        for bit in 18..28 {
+            let word = 0x4000_0000 | 9 << 6 | 1 | 1 << bit;
+            refused_with(&formed(number, &[9]), first, word);
+        }
+        let three = formed(number, &[9, 10, 11]);
+        refused_with(&three, first + 2, 0x4000_0000 | 9 << 6 | 2);
+        refused_with(&three, first + 1, 0x4000_0000 | 9 << 6 | 1);
     }
-    for bit in 18..28 {
-        refused_with(&composition(&[9]), 6, 0x4000_0000 | 9 << 6 | 1 | 1 << bit);
-    }
-    refused_with(&composition(&[9, 10, 11]), 8, 0x4000_0000 | 9 << 6 | 2);
-    refused_with(&composition(&[9, 10, 11]), 7, 0x4000_0000 | 9 << 6 | 1);
 }
 
 /// "References now rise by index" (document 02, request 2).
@@ -293,8 +377,8 @@ fn references_rise_by_index() {
         &[3, 7, 9, 4_094, 4_095],
         &all,
     ];
-    for indexes in rising {
-        let message = composition(indexes);
+    for (indexes, number) in rising.iter().flat_map(|all| FORMS.map(|form| (all, form))) {
+        let message = formed(number, indexes);
         assert_eq!(parse(&encode(&message)), Some(message));
     }
 }
@@ -316,8 +400,8 @@ fn references_that_fall_are_met_by_10() {
         &[4_095, 7, 9, 3],
         &[4_095, 9, 7, 3],
     ];
-    for indexes in falling {
-        let written = encode(&composition(indexes));
+    for (indexes, number) in falling.iter().flat_map(|all| FORMS.map(|form| (all, form))) {
+        let written = encode(&formed(number, indexes));
         assert_eq!(parse(&written), None, "{indexes:?}");
         assert_eq!(rcds_message_type(&written), 10, "{indexes:?}");
     }
@@ -325,7 +409,10 @@ fn references_that_fall_are_met_by_10() {
     for place in 0..4_095 {
         let mut indexes: Vec<u32> = (0..4_096).collect();
         indexes.swap(place, place + 1);
-        assert_eq!(parse(&encode(&composition(&indexes))), None, "{place}");
+        for number in FORMS {
+            let written = encode(&formed(number, &indexes));
+            assert_eq!(parse(&written), None, "{place}");
+        }
     }
 }
 
@@ -343,8 +430,8 @@ fn an_index_that_stands_twice_is_met_by_10() {
         &[(3, 1), (3, 2), (9, 1)],
         &[(3, 1), (9, 1), (9, 32)],
     ];
-    for pairs in twice {
-        let written = encode(&counted(pairs));
+    for (pairs, number) in twice.iter().flat_map(|all| FORMS.map(|form| (all, form))) {
+        let written = encode(&counted(number, pairs));
         assert_eq!(parse(&written), None, "{pairs:?}");
         assert_eq!(rcds_message_type(&written), 10, "{pairs:?}");
     }
@@ -358,8 +445,10 @@ fn counts_in_any_order() {
         [(3, 1), (7, 32), (9, 1)],
         [(3, 5), (7, 5), (9, 5)],
     ] {
-        let message = counted(&pairs);
-        assert_eq!(parse(&encode(&message)), Some(message));
+        for number in FORMS {
+            let message = counted(number, &pairs);
+            assert_eq!(parse(&encode(&message)), Some(message));
+        }
     }
 }
 
@@ -386,7 +475,10 @@ fn nothing_between_the_words_of_a_type() {
         let length = words(&message).len();
         for word in [0x1100_0005, 0x2000_0000, 0x3000_0000, 0x6000_0002] {
             let longer = between(&message, |all| all.push(word));
-            assert_eq!(parse(&longer), None);
+            // After the id alone a number is a composition's own.
+            let own = message == formed(None, &[]) && word == 0x2000_0000;
+            let expected = own.then(|| formed(Some(0), &[]));
+            assert_eq!(parse(&longer), expected);
         }
         for place in 0..length.min(12) - 1 {
             let fewer = between(&message, |all| {

@@ -1,10 +1,12 @@
 //! Trails: document 01, "Checked by hand"; numbers and orders against all sequences; the calls.
 
 use reference::eulerian::trails_from;
-use reference::rcds::{rcds_trail_number, rcds_trail_order, ACCEPTED};
+use reference::rcds::{
+    count, rcds_trail_number, rcds_trail_order, says_only, ACCEPTED, ONLY_TRAIL,
+};
 use reference::trail::{
-    all_trails, multiset, number_of_order, order_of_number, pairs, trail, trails_before, Multiset,
-    Pair,
+    all_trails, has_only_one, is_only_trail, multiset, number_of_order, order_of_number, pairs,
+    trail, trails_before, Multiset, Pair,
 };
 
 /// a < b < c
@@ -38,6 +40,50 @@ fn two_trails() {
         assert_eq!(order.as_deref(), Some(ids.as_slice()));
     }
     assert_eq!(order_of_number(&entries(&pairs(&both[0])), 2), None);
+    assert!(!has_only_one(&over) && !both.iter().any(|ids| is_only_trail(ids)));
+}
+
+/// The starred case without one of its pairs, or with one of them again, where a trail is left.
+#[test]
+fn one_trail_beside_the_two() {
+    let only: [(&[Pair], &[u64]); 6] = [
+        (&[(0, A), (A, B), (B, A)], &[A, B, A]),
+        (&[(0, A), (A, A), (A, B)], &[A, A, B]),
+        (&[(0, A), (A, A)], &[A, A]),
+        (&[(0, A), (A, B)], &[A, B]),
+        (&[(0, A)], &[A]),
+        (&[(0, A), (A, A), (A, A)], &[A, A, A]),
+    ];
+    for (over, ids) in only {
+        assert_eq!(all_trails(&multiset(over)), [ids]);
+        assert!(has_only_one(&multiset(over)) && is_only_trail(ids));
+        assert_eq!(order_of_number(&entries(over), 0).as_deref(), Some(ids));
+        assert_eq!(number_of_order(ids), Some(0));
+    }
+    // Two trails become three.
+    let three = multiset(&[(0, A), (A, A), (A, A), (A, B), (B, A)]);
+    assert_eq!(all_trails(&three).len(), 3);
+    assert!(!has_only_one(&three));
+}
+
+/// Orders of every length whose trail is the only one, and some of which it is not.
+#[test]
+fn only_trails_of_every_length() {
+    for length in 1..=32 {
+        let equal = vec![A; length];
+        let different: Vec<u64> = (0..length as u64).map(|k| A + k).collect();
+        let ended = [vec![A; length - 1], vec![B]].concat();
+        for ids in [equal, different, ended] {
+            assert!(is_only_trail(&ids), "{ids:?}");
+        }
+        // The starred case, with more ids where b stands.
+        if length >= 5 {
+            let mut ids = vec![A, A];
+            ids.extend((0..length as u64 - 3).map(|k| B + k));
+            ids.push(A);
+            assert!(!is_only_trail(&ids), "{ids:?}");
+        }
+    }
 }
 
 #[test]
@@ -46,6 +92,7 @@ fn no_trail() {
     assert_eq!(all_trails(&multiset(&over)), Vec::<Vec<u64>>::new());
     assert_eq!(trails_from(0, &multiset(&over)), 0);
     assert_eq!(order_of_number(&entries(&over), 0), None);
+    assert!(!has_only_one(&multiset(&over)));
 }
 
 /// Everything that is said of a multiset by counting, against all its sequences.
@@ -57,13 +104,39 @@ fn compare_with_all_sequences(over: &Multiset) -> usize {
         assert_eq!(trail(over, number as u128).as_ref(), Some(ids));
     }
     assert_eq!(trail(over, all.len() as u128), None, "{over:?}");
+    assert_eq!(has_only_one(over), all.len() == 1, "{over:?}");
+    compare_calls_with_all_sequences(over, &all);
     all.len()
+}
+
+/// What both calls answer about each trail of a multiset, and about the number after the last: "The trail
+/// search now also says whether its trail is the only one." (document 02, request 5)
+fn compare_calls_with_all_sequences(over: &Multiset, all: &[Vec<u64>]) {
+    let rows = over.iter().flat_map(|(&(a, b), &count)| [a, b, count]);
+    let table = bytes(&rows.collect::<Vec<_>>());
+    let only = match all.len() {
+        1 => ONLY_TRAIL,
+        _ => 0,
+    };
+    for (number, ids) in all.iter().enumerate() {
+        let mut written = vec![170; 8 * ids.len()];
+        let answer = rcds_trail_order(&table, number as u64, &mut written);
+        assert_eq!(answer, ACCEPTED + only + ids.len() as u64, "{over:?}");
+        assert_eq!(written, bytes(ids));
+        let expected = match ids.contains(&0) {
+            true => 17,
+            false => ACCEPTED + only + number as u64,
+        };
+        assert_eq!(rcds_trail_number(&bytes(ids)), expected, "{ids:?}");
+    }
+    let after = rcds_trail_order(&table, all.len() as u64, &mut [0; 64]);
+    assert_eq!(after, 17, "{over:?}");
 }
 
 #[test]
 fn every_small_multiset() {
     let ids = [0, A, B];
-    let mut several = 0;
+    let mut by_trails = [0; 3];
     for counts in 0..3_u64.pow(9) {
         let mut over = Multiset::new();
         for place in 0..9 {
@@ -73,10 +146,53 @@ fn every_small_multiset() {
             }
         }
         if (1..=6).contains(&over.values().sum::<u64>()) {
-            several += usize::from(compare_with_all_sequences(&over) > 1);
+            by_trails[compare_with_all_sequences(&over).min(2)] += 1;
         }
     }
+    let [none, one, several] = by_trails;
+    assert!(none > 100, "{none} multisets had no trail");
+    assert!(one > 100, "{one} multisets had one trail");
     assert!(several > 100, "{several} multisets had several trails");
+}
+
+/// All orders of the numbers below a count.
+fn permutations(count: usize) -> Vec<Vec<usize>> {
+    let Some(last) = count.checked_sub(1) else {
+        return vec![vec![]];
+    };
+    let mut all = Vec::new();
+    for order in permutations(last) {
+        all.extend((0..count).map(|place| {
+            let mut longer = order.clone();
+            longer.insert(place, last);
+            longer
+        }));
+    }
+    all
+}
+
+/// Every order of up to 7 ids, each of three, against every permutation of it: its trail is the only one
+/// when no other sequence of its ids has its pairs.
+#[test]
+fn every_short_order_against_its_permutations() {
+    let ids = [A, B, C];
+    let (mut only, mut others) = (0, 0);
+    for length in 1..=7 {
+        let permutations = permutations(length);
+        for code in 0..3_usize.pow(length as u32) {
+            let id = |k: usize| ids[code / 3_usize.pow(k as u32) % 3];
+            let order: Vec<u64> = (0..length).map(id).collect();
+            let over = multiset(&pairs(&order));
+            let other = permutations.iter().any(|places| {
+                let permuted: Vec<u64> = places.iter().map(|&place| order[place]).collect();
+                permuted != order && multiset(&pairs(&permuted)) == over
+            });
+            assert_eq!(is_only_trail(&order), !other, "{order:?}");
+            only += usize::from(!other);
+            others += usize::from(other);
+        }
+    }
+    assert!(only > 500 && others > 500, "{only} and {others}");
 }
 
 #[test]
@@ -137,6 +253,7 @@ fn numbers_up_to_4095() {
     for number in [4_096, 4_097, 5_039] {
         let order = trail(&over, number).expect("a star of 7 has 5,040 trails");
         assert_eq!(number_of_order(&order), Some(4_096));
+        assert_eq!(rcds_trail_number(&bytes(&order)), ACCEPTED + 4_096);
     }
 }
 
@@ -167,6 +284,21 @@ fn id_0_inside_a_trail() {
     assert_eq!(order_of_number(&over, 0), Some(vec![A, 0, B]));
     assert_eq!(order_of_number(&over, 1), None);
     assert_eq!(order_of_number(&[((0, 0), 2)], 0), Some(vec![0, 0]));
+    let table = bytes(&[0, A, 1, A, 0, 1, 0, B, 1]);
+    let answer = rcds_trail_order(&table, 0, &mut [0; 24]);
+    assert_eq!(answer, ACCEPTED + ONLY_TRAIL + 3);
+}
+
+/// What the header's macros have of an answer.
+#[test]
+fn parts_of_an_answer() {
+    for small in [0, 1, 4_096, u64::from(u32::MAX)] {
+        for (only, added) in [(false, 0), (true, ONLY_TRAIL)] {
+            let answer = ACCEPTED + added + small;
+            assert_eq!((count(answer), says_only(answer)), (small, only));
+        }
+    }
+    assert!(![17, 20, ACCEPTED].into_iter().any(says_only));
 }
 
 #[test]
@@ -176,8 +308,11 @@ fn numbering_through_bytes() {
     assert_eq!(rcds_trail_number(&bytes(&order)[1..]), 17);
     assert_eq!(rcds_trail_number(&[]), 17);
     assert_eq!(rcds_trail_number(&[1; 257]), 17);
-    assert_eq!(rcds_trail_number(&[1; 256]), ACCEPTED);
+    assert_eq!(rcds_trail_number(&[1; 256]), ACCEPTED + ONLY_TRAIL);
     assert_eq!(rcds_trail_number(&[1; 264]), 17);
+    assert_eq!(rcds_trail_number(&bytes(&[A])), ACCEPTED + ONLY_TRAIL);
+    assert_eq!(rcds_trail_number(&bytes(&[A, B, A])), ACCEPTED + ONLY_TRAIL);
+    assert_eq!(rcds_trail_number(&bytes(&[A, A, B, A])), ACCEPTED);
     assert_eq!(rcds_trail_number(&bytes(&[A, 0])), 17);
 }
 
@@ -190,7 +325,7 @@ fn ordering_through_bytes() {
         let written = if answer < ACCEPTED {
             0
         } else {
-            8 * (answer - ACCEPTED) as usize
+            8 * count(answer) as usize
         };
         assert!(ids[written..].iter().all(|&byte| byte == 170));
         (answer, ids[..written].to_vec())
@@ -208,4 +343,10 @@ fn ordering_through_bytes() {
     entries.resize(792, 0);
     assert_eq!(ask(&entries, 0, 256).0, 17);
     assert_eq!(ask(&[], 0, 256).0, 17);
+    // Without the pair of A and A there is one.
+    let one = bytes(&[A, B, 1, 0, A, 1, B, A, 1]);
+    let answer = ACCEPTED + ONLY_TRAIL + 3;
+    assert_eq!(ask(&one, 0, 24), (answer, bytes(&[A, B, A])));
+    assert_eq!(ask(&one, 0, 23).0, 20);
+    assert_eq!(ask(&one, 1, 24).0, 17);
 }

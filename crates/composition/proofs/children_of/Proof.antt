@@ -1,9 +1,11 @@
 -- Each way out is a case of the definition: the laws of `Answering`.
+use mathlib.Core.Path.{sym, ap, _∙_}
 use native.Mathlib.Omega.{arith}
 use borrow.Author.Needs.{needs}
 use borrow.Author.Tests.{not-true, not-false}
-use Rattle.composition.proofs.Filling.{length-refs}
-use Rattle.composition.proofs.Answering.{level-too-low, too-many, one-unnamed, no-trail, trail-short, pile-too-high, composed}
+use Rattle.trail.specs.Calls.{orderAnswer}
+use Rattle.composition.proofs.Filling.{length-refs, filled-from}
+use Rattle.composition.proofs.Answering.{level-too-low, too-many, one-unnamed, no-trail, trail-short, carried-wrongly, pile-too-high, composed}
 use Rattle.composition.proofs.children_of.Statement.{statement}
 use Rattle.composition.proofs.children_of.Tie as tie
 
@@ -17,7 +19,10 @@ refuse-requires-2 : tie.Need-refuse-requires-2
 refuse-requires-2 c κs = search needs
 
 returns-2 : tie.Need-returns-2
-returns-2 c = too-many _ _ _ _ _ _ _ (length-refs _ _) _ (c .refuse2 .ensures) (c .before .if2 .taken)
+returns-2 c = too-many _ _ _ _ _ _ _ (length-refs _ _ _) _ (c .refuse2 .ensures) (c .before .if2 .taken)
+
+references-from-requires : tie.Need-references-from-requires
+references-from-requires c κs = search needs
 
 add-fill : tie.Need-add-fill
 add-fill c = search needs
@@ -30,7 +35,12 @@ refuse-requires-3 c κs = search needs
 
 returns-3 : tie.Need-returns-3
 returns-3 c =
-    one-unnamed _ _ _ _ _ _ _ (c .before .before .before .fill .ensures) _ (c .refuse3 .ensures) (not-true _ (c .before .if3 .taken))
+    let filled = c .before .before .before in
+    one-unnamed _ _ _ _ _ _ _ (filled-from _ _ (filled .before .references-from .ensures) (filled .fill .ensures)) _ (c .refuse3 .ensures)
+    (not-true _ (c .before .if3 .taken))
+
+meant-requires : tie.Need-meant-requires
+meant-requires c κs = search needs
 
 order-requires : tie.Need-order-requires
 order-requires c κs = search needs
@@ -41,36 +51,61 @@ refuse-requires-4 c κs = search needs
 returns-4 : tie.Need-returns-4
 returns-4 c =
     let found = c .before .before in
-    let named = found .before in
-    no-trail _ _ _ _ _ _ _ (named .before .before .fill .ensures) (not-false _ (named .if3 .left)) _ (found .order .ensures) _
-    (c .refuse4 .ensures) (c .before .if4 .taken)
+    let named = found .before .before in
+    let filled = named .before .before in
+    no-trail _ _ _ _ _ _ _ (filled-from _ _ (filled .before .references-from .ensures) (filled .fill .ensures)) (not-false _ (named .if3 .left)) _
+    (found .order .ensures ∙ ap (orderAnswer _) (found .before .meant .ensures)) _ (c .refuse4 .ensures) (c .before .if4 .taken)
 
-sub-if5 : tie.Need-sub-if5
-sub-if5 c =
-    let found = c .before in
-    let named = found .before in
-    let short = trail-short _ _ _ _ _ (named .before .before .fill .ensures) (not-false _ (named .if3 .left)) _ (found .order .ensures) (c .if4 .left) in
-    omega (arith, short)
+carried-rightly-requires : tie.Need-carried-rightly-requires
+carried-rightly-requires c κs = search needs
 
 refuse-requires-5 : tie.Need-refuse-requires-5
 refuse-requires-5 c κs = search needs
 
 returns-5 : tie.Need-returns-5
 returns-5 c =
+    let asked = c .before .before in
+    let some = asked .before in
+    let found = some .before in
+    let named = found .before .before in
+    let filled = named .before .before in
+    carried-wrongly _ _ _ _ _ _ _ (filled-from _ _ (filled .before .references-from .ensures) (filled .fill .ensures)) (not-false _ (named .if3 .left)) _
+    (found .order .ensures ∙ ap (orderAnswer _) (found .before .meant .ensures)) (some .if4 .left) _ (c .refuse5 .ensures)
+    (sym (asked .carried-rightly .ensures _) ∙ not-true _ (c .before .if5 .taken))
+
+sub-if6 : tie.Need-sub-if6
+sub-if6 c =
     let some = c .before .before in
     let found = some .before in
-    let named = found .before in
-    pile-too-high _ _ _ _ _ _ _ (named .before .before .fill .ensures) (not-false _ (named .if3 .left)) _ (found .order .ensures)
-    (some .if4 .left) _ (c .refuse5 .ensures) (c .before .if5 .taken)
+    let named = found .before .before in
+    let filled = named .before .before in
+    let short = trail-short _ _ _ _ _ (filled .fill .ensures) (not-false _ (named .if3 .left)) _
+    (found .order .ensures ∙ ap (orderAnswer _) (found .before .meant .ensures)) (some .if4 .left) in
+    omega (arith, short)
+
+refuse-requires-6 : tie.Need-refuse-requires-6
+refuse-requires-6 c κs = search needs
 
 returns-6 : tie.Need-returns-6
 returns-6 c =
-    let some = c .before .before in
+    let some = c .before .before .before .before in
     let found = some .before in
-    let named = found .before in
-    let few = named .before .before .before in
-    composed _ _ _ _ _ _ _ (named .before .before .fill .ensures) (not-false _ (named .if3 .left)) _ (found .order .ensures) (some .if4 .left)
-    _ (length-refs _ _) (few .if2 .left) (few .before .if1 .left) (c .before .if5 .left)
+    let named = found .before .before in
+    let filled = named .before .before in
+    pile-too-high _ _ _ _ _ _ _ (filled-from _ _ (filled .before .references-from .ensures) (filled .fill .ensures)) (not-false _ (named .if3 .left)) _
+    (found .order .ensures ∙ ap (orderAnswer _) (found .before .meant .ensures)) (some .if4 .left) _ (c .refuse6 .ensures) (c .before .if6 .taken)
+
+returns-7 : tie.Need-returns-7
+returns-7 c =
+    let carried = c .before .before in
+    let some = carried .before .before in
+    let found = some .before in
+    let named = found .before .before in
+    let filled = named .before .before in
+    let few = filled .before .before in
+    composed _ _ _ _ _ _ _ (filled-from _ _ (filled .before .references-from .ensures) (filled .fill .ensures)) (not-false _ (named .if3 .left)) _
+    (found .order .ensures ∙ ap (orderAnswer _) (found .before .meant .ensures)) (some .if4 .left) _ (length-refs _ _ _) (few .if2 .left)
+    (few .before .if1 .left) (sym (carried .before .carried-rightly .ensures _) ∙ not-false _ (carried .if5 .left)) (c .before .if6 .left)
 
 pub children-of-spec : {M : Type 1} → statement M
 children-of-spec =
@@ -80,14 +115,19 @@ children-of-spec =
     returns
     refuse-requires-2
     returns-2
+    references-from-requires
     add-fill
     fill-requires
     refuse-requires-3
     returns-3
+    meant-requires
     order-requires
     refuse-requires-4
     returns-4
-    sub-if5
+    carried-rightly-requires
     refuse-requires-5
     returns-5
-    returns-6)
+    sub-if6
+    refuse-requires-6
+    returns-6
+    returns-7)

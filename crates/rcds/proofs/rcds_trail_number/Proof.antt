@@ -2,7 +2,7 @@
 use mathlib.Core.Path.{sym}
 use borrow.Author.Needs.{needs}
 use lib.Seq.{length-take-le}
-use Rattle.rcds.proofs.Answers.{number-odd, number-long, number-read}
+use Rattle.rcds.proofs.Answers.{number-odd, number-long, number-low, number-read}
 use Rattle.rcds.proofs.rcds_trail_number.Statement.{statement}
 use Rattle.rcds.proofs.rcds_trail_number.Tie as tie
 
@@ -24,10 +24,14 @@ slice-aggregate-number c = sym (length-take-le _ _ (search needs))
 number-requires : tie.Need-number-requires
 number-requires c κs = search needs
 
+mark-requires : tie.Need-mark-requires
+mark-requires c κs = number-low _ _ (c .number .ensures)
+
 returns-3 : tie.Need-returns-3
 returns-3 c =
-    let read = c .before .before in
-    number-read _ _ _ (read .before .before .if1 .left) (read .before .if2 .left) (read .read-column .ensures) (c .number .ensures)
+    let numbered = c .before in
+    let read = numbered .before .before in
+    number-read _ _ _ _ (read .before .before .if1 .left) (read .before .if2 .left) (read .read-column .ensures) (numbered .number .ensures) (c .mark .ensures)
 
 pub rcds-trail-number-spec : {M : Type 1} → statement M
 rcds-trail-number-spec =
@@ -39,4 +43,5 @@ rcds-trail-number-spec =
     array-share-prefix-list
     slice-aggregate-number
     number-requires
+    mark-requires
     returns-3)

@@ -4,7 +4,7 @@ use mathlib.Core.Path.{_≡_}
 use borrow.Author.Needs.{needs}
 use Rattle.trail.specs.Calls.{orderAnswer}
 use Rattle.rcds.specs.Trails.{pairsIn}
-use Rattle.rcds.proofs.Answers.{order-odd, order-long, order-none, order-room, order-small, order-written}
+use Rattle.rcds.proofs.Answers.{order-odd, order-long, order-none, order-room, order-small, order-low, order-written}
 use Rattle.rcds.proofs.rcds_trail_order.Statement.{statement}
 use Rattle.rcds.proofs.rcds_trail_order.Tie as tie
 
@@ -51,15 +51,25 @@ write-ids-requires c κs =
     let small = order-small _ [] _ (read .before .before .if1 .left) (read .before .if2 .left) _ (trail-is o) (c .before .before .before .if3 .left) in
     (small, search needs)
 
+mark-requires : tie.Need-mark-requires
+mark-requires c κs =
+    let found = c .before .before .before .before .before .before in
+    let o = found .before in
+    let read = o .before .before .before in
+    order-low _ [] _ (read .before .before .if1 .left) (read .before .if2 .left) _ (trail-is o) (found .if3 .left)
+
 same-length : tie.Need-same-length
 same-length c = search needs
 
 returns-5 : tie.Need-returns-5
 returns-5 c =
-    let o = c .before .before .before .before .before .before .before in
+    let written = c .before .before .before in
+    let room = written .before .before .before in
+    let found = room .before in
+    let o = found .before in
     let read = o .before .before .before in
-    order-written _ _ _ (read .before .before .if1 .left) (read .before .if2 .left) _ (trail-is o)
-    (c .before .before .before .before .before .before .if3 .left) _ (c .before .before .before .before .before .if4 .left) (c .before .before .write-ids .ensures)
+    order-written _ _ _ (read .before .before .if1 .left) (read .before .if2 .left) _ (trail-is o) (found .if3 .left) _ _ (room .if4 .left)
+    (written .write-ids .ensures) (c .mark .ensures)
 
 pub rcds-trail-order-spec : {M : Type 1} → statement M
 rcds-trail-order-spec =
@@ -74,5 +84,6 @@ rcds-trail-order-spec =
     returns-3
     returns-4
     write-ids-requires
+    mark-requires
     same-length
     returns-5)

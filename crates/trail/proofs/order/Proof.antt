@@ -1,10 +1,15 @@
--- A refusal is owed to one of the four questions; the trail is the search's, moved to the front.
+-- A refusal is owed to one of the four questions; the trail is the search's, moved to the front, and that it was found is what `only` asks.
 use borrow.Author.Needs.{needs}
-use Rattle.trail.proofs.Answers.{order-refused, order-found}
-use native.Mathlib.Omega.{arith}
 use mathlib.Core.Path.{refl}
+use native.Mathlib.Omega.{arith}
+use Rattle.trail.specs.Search.{Columns}
+use Rattle.trail.proofs.Answers.{order-refused, order-found}
 use Rattle.trail.proofs.order.Statement.{statement}
 use Rattle.trail.proofs.order.Tie as tie
+
+-- How long the columns are, as the call's start tells it: both searches ask for it.
+columns : (c : tie.Start) → Columns (c .args .pairs .previous) (c .args .pairs .own) (c .args .pairs .count)
+columns c = record { previous = search needs; own = search needs; count = search needs }
 
 slice-aggregate-size : tie.Need-slice-aggregate-size
 slice-aggregate-size c = search needs
@@ -40,7 +45,10 @@ slice-aggregate-find-3 : tie.Need-slice-aggregate-find-3
 slice-aggregate-find-3 c = search needs
 
 find-requires : tie.Need-find-requires
-find-requires c κs = (record { previous = search needs; own = search needs; count = search needs }, omega (arith, c .before .before .before .before .before .before .size .ensures, c .before .before .before .before .if2 .left), omega (arith, c .before .before .before .before .if2 .left))
+find-requires c κs =
+    let sized = c .before .before .before .before .before .before in
+    let few = c .before .before .before .before .if2 .left in
+    (columns (sized .before .before .before .before .before), omega (arith, sized .size .ensures, few), few)
 
 slice-aggregate-front : tie.Need-slice-aggregate-front
 slice-aggregate-front c = search needs
@@ -48,11 +56,40 @@ slice-aggregate-front c = search needs
 front-requires : tie.Need-front-requires
 front-requires c κs = omega (arith, c .before .before .before .before .before .before .before .before .if2 .left)
 
+slice-aggregate-only : tie.Need-slice-aggregate-only
+slice-aggregate-only c = search needs
+
+slice-aggregate-only-2 : tie.Need-slice-aggregate-only-2
+slice-aggregate-only-2 c = search needs
+
+slice-aggregate-only-3 : tie.Need-slice-aggregate-only-3
+slice-aggregate-only-3 c = search needs
+
+only-requires : tie.Need-only-requires
+only-requires c κs =
+    let found = c .before .before .before .before .before .before in
+    let asked = found .before .before .before .before .before .before in
+    let sized = asked .before .before in
+    let few = asked .if2 .left in (
+      columns (sized .before .before .before .before .before),
+      omega (arith, sized .size .ensures, few),
+      few,
+      omega (arith, found .before .find .ensures .got (found .if4 .taken) .0),
+    )
+
 add-answer : tie.Need-add-answer
-add-answer c = omega (arith, c .before .before .before .before .before .before .before .before .before .if2 .left)
+add-answer c =
+    let found = c .before .before .before .before .before .before .before in
+    omega (arith, found .before .before .before .before .before .before .if2 .left)
 
 returns-4 : tie.Need-returns-4
-returns-4 c = order-found _ _ _ _ _ _ _ (c .before .before .before .before .before .before .before .before .before .before .before .size .ensures) (c .before .before .before .before .before .before .before .before .before .before .if1 .left) (c .before .before .before .before .before .before .before .before .before .if2 .left) (c .before .before .before .before .before .before .before .before .if3 .left) (c .before .before .before .before .find .ensures) (c .before .before .before .if4 .taken) refl refl (c .front .ensures)
+returns-4 c =
+    let moved = c .before .before .before .before in
+    let found = moved .before .before .before in
+    let small = found .before .before .before .before .before in
+    let asked = small .before in
+    order-found _ _ _ _ _ _ _ (asked .before .before .size .ensures) (asked .before .if1 .left) (asked .if2 .left) (small .if3 .left)
+    (found .before .find .ensures) (found .if4 .taken) refl refl (moved .front .ensures) (c .only .ensures)
 
 refuse-requires-4 : tie.Need-refuse-requires-4
 refuse-requires-4 c κs = search needs
@@ -78,6 +115,10 @@ order-spec =
     find-requires
     slice-aggregate-front
     front-requires
+    slice-aggregate-only
+    slice-aggregate-only-2
+    slice-aggregate-only-3
+    only-requires
     add-answer
     returns-4
     refuse-requires-4

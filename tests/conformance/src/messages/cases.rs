@@ -2,6 +2,7 @@
 //! alone.
 
 use super::damage::{damaged, Damage};
+use super::numbers::{in_other_form, misplaced, Misplaced, MISPLACED};
 use super::order::{disordered, Disorder, DISORDERS};
 use super::valid::{message, Sizes, LARGE, MEGABYTE, SMALL};
 use crate::failure::first_bytes;
@@ -33,6 +34,8 @@ pub enum Family {
     Valid,
     /// The words of one type under the head of another, or of no type.
     Retyped,
+    /// A composition in both forms, with its number and without it.
+    BothForms,
     /// Small, with one kind of damage.
     Damaged(Damage),
     /// Small, with damage of two kinds.
@@ -43,7 +46,8 @@ pub enum Family {
     AnyBytes,
     /// An opening of few cells, with a q that is right modulo a power of two only.
     WrappedWidth,
-    /// All 4,096 references; some with one more, or with two of them exchanged.
+    /// All 4,096 references, with a number and without it; some with one more, or with two of them
+    /// exchanged.
     AllReferences,
     /// As large as both ends exchange them, well formed or with damage.
     Large,
@@ -65,9 +69,10 @@ const DAMAGES: [Damage; 9] = [
 ];
 
 /// The families, and how many cases each has.
-const FAMILIES: [(Family, usize); 24] = [
+const FAMILIES: [(Family, usize); 33] = [
     (Family::Valid, 24_000),
     (Family::Retyped, 6 * 16 * 20),
+    (Family::BothForms, 4_000),
     (Family::Damaged(Damage::Edges), 36_000),
     (Family::Damaged(Damage::Bits), 24_000),
     (Family::Damaged(Damage::Bytes), 18_000),
@@ -86,13 +91,42 @@ const FAMILIES: [(Family, usize); 24] = [
     ),
     (Family::Damaged(Damage::Order(Disorder::Reversed)), 3_000),
     (Family::Damaged(Damage::Order(Disorder::Lowered)), 3_000),
+    (Family::Damaged(Damage::Numbers(Misplaced::Doubled)), 1_500),
+    (
+        Family::Damaged(Damage::Numbers(Misplaced::DoubledOther)),
+        1_500,
+    ),
+    (
+        Family::Damaged(Damage::Numbers(Misplaced::AfterReferences)),
+        1_500,
+    ),
+    (
+        Family::Damaged(Damage::Numbers(Misplaced::InPlaceAndAfter)),
+        1_500,
+    ),
+    (
+        Family::Damaged(Damage::Numbers(Misplaced::BetweenReferences)),
+        1_500,
+    ),
+    (
+        Family::Damaged(Damage::Numbers(Misplaced::InPlaceAndBetween)),
+        1_500,
+    ),
+    (
+        Family::Damaged(Damage::Numbers(Misplaced::BeforeTheId)),
+        750,
+    ),
+    (
+        Family::Damaged(Damage::Numbers(Misplaced::InsideTheId)),
+        750,
+    ),
     (Family::DamagedTwice, 12_000),
     (Family::AnyWords, 12_000),
     (Family::AnyBytes, 2_000),
     (Family::WrappedWidth, 400),
     (Family::AllReferences, 60),
     (Family::Large, 1_200),
-    (Family::Megabyte, 120),
+    (Family::Megabyte, 240),
 ];
 
 /// All families.
@@ -126,7 +160,9 @@ fn family_message(family: Family, place: usize, random: &mut Random) -> Vec<u8> 
             bytes[0] = 0x10 | (place / 6 % 16) as u8;
             bytes
         }
+        Family::BothForms => both_forms(place, random),
         Family::Damaged(Damage::Order(disorder)) => not_rising(disorder, random),
+        Family::Damaged(Damage::Numbers(kind)) => with_misplaced(kind, random),
         Family::Damaged(damage) => damaged(&valid(place, &SMALL, random), damage, random),
         Family::DamagedTwice => {
             let once = damaged(&valid(place, &SMALL, random), whole_words(random), random);
@@ -163,13 +199,33 @@ fn not_rising(disorder: Disorder, random: &mut Random) -> Vec<u8> {
     }
 }
 
-/// A well-formed message of a type that grows; two of three with damage, a composition's of its order in
-/// one of them.
+/// A composition that is right but for its number words.
+fn with_misplaced(kind: Misplaced, random: &mut Random) -> Vec<u8> {
+    loop {
+        let whole = encode(&message(4, &SMALL, random));
+        if let Some(changed) = misplaced(&whole, kind, random) {
+            return changed;
+        }
+    }
+}
+
+/// A composition, and in its other form the next time.
+fn both_forms(place: usize, random: &mut Random) -> Vec<u8> {
+    let whole = encode(&message(4, &SMALL, random));
+    match place % 2 {
+        0 => whole,
+        _ => in_other_form(&whole, random).expect("a composition"),
+    }
+}
+
+/// A well-formed message of a type that grows; two of three with damage, a composition's of its order or of
+/// its numbers in one of them.
 fn valid_or_damaged(place: usize, sizes: &Sizes, random: &mut Random) -> Vec<u8> {
     let message_type = 3 + place as u32 % 3;
     let whole = encode(&message(message_type, sizes, random));
     let damage = match (place / 3 % 3, message_type) {
         (0, _) => return whole,
+        (1, 4) if random.percent(50) => Damage::Numbers(random.one_of(&MISPLACED)),
         (1, 4) => Damage::Order(random.one_of(&DISORDERS)),
         _ => random.one_of(&DAMAGES),
     };
@@ -192,7 +248,8 @@ fn any_words(random: &mut Random) -> Vec<u8> {
     let node = [2, 3, 3, 3];
     let kinds: Vec<u32> = match message_type {
         3 => [[2; 7].as_slice(), &[3; 3]].concat(),
-        4 => [node.as_slice(), &[2]].concat(),
+        4 if random.percent(50) => [node.as_slice(), &[2]].concat(),
+        4 => node.to_vec(),
         2 | 5 | 6 => node.to_vec(),
         _ => vec![],
     };
@@ -240,9 +297,13 @@ fn wrapped_width(random: &mut Random) -> Vec<u8> {
     bytes(&words)
 }
 
-/// Every index once, rising; in a third of the cases one index once more, and in a third two exchanged.
+/// Every index once, rising; in a third of the cases one index once more, and in a third two exchanged. Every
+/// other one omits the number.
 fn all_references(place: usize, random: &mut Random) -> Vec<u8> {
-    let mut words = vec![0x1400_0005, 2 << 28, 3 << 28, 3 << 28, 3 << 28, 2 << 28];
+    let mut words = vec![0x1400_0005, 2 << 28, 3 << 28, 3 << 28, 3 << 28];
+    if place / 3 % 2 == 0 {
+        words.push(2 << 28);
+    }
     let mut indexes: Vec<u32> = (0..4_096).collect();
     let one = random.one_of(&[0, 1, 63, 64, 2_048, 4_094, 4_095]);
     let other = random.between(0, 4_096) as usize;

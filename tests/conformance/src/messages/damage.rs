@@ -1,9 +1,10 @@
 //! What becomes of a message on the way: bits, bytes and words changed, words dropped, repeated,
-//! swapped, cut and lengthened; and references that do not rise.
+//! swapped, cut and lengthened; references that do not rise, and numbers where none may stand.
 //!
 //! A message that changes its length is refused by its end alone, so that the end is set right
 //! again after some of these.
 
+use super::numbers::{misplaced, Misplaced};
 use super::order::{disordered, Disorder};
 use crate::random::Random;
 
@@ -30,6 +31,8 @@ pub enum Damage {
     Lengthened,
     /// The references of a composition in another order, or one of them twice; nothing else.
     Order(Disorder),
+    /// A number word of a composition twice, or in another place; nothing else.
+    Numbers(Misplaced),
 }
 
 /// The lengths of stretches: a word, a value, a cell, the cells of one more q, and others.
@@ -41,6 +44,9 @@ pub fn damaged(message: &[u8], damage: Damage, random: &mut Random) -> Vec<u8> {
         Damage::Bits | Damage::Bytes => bytes_changed(message, damage, random),
         Damage::Order(disorder) => {
             disordered(message, disorder, random).unwrap_or_else(|| message.to_vec())
+        }
+        Damage::Numbers(kind) => {
+            misplaced(message, kind, random).unwrap_or_else(|| message.to_vec())
         }
         Damage::Cut | Damage::Lengthened if random.between(0, 1) == 0 => {
             bytes_more_or_fewer(message, damage, random)

@@ -7,6 +7,7 @@ use super::cases::count;
 use super::compare::MessageType;
 use super::report::run;
 use crate::lent::part;
+use std::ops::Range;
 
 const NONE: u8 = 0;
 const FIRST_PART_9_BITS: u8 = 1;
@@ -69,6 +70,18 @@ const NONE_AS_A_QUERY: u8 = 57;
 const MESSAGE_CHANGED: u8 = 58;
 const PAST_THE_MESSAGE: u8 = 59;
 const REFUSED_BY_11: u8 = 60;
+const NUMBER_ALWAYS_WANTED: u8 = 61;
+const NUMBER_NEVER_TAKEN: u8 = 62;
+const NUMBER_0_NOT_TAKEN: u8 = 63;
+const TWO_NUMBERS_TAKEN: u8 = 64;
+const EQUAL_NUMBERS_TAKEN: u8 = 65;
+const NUMBER_AFTER_REFERENCES_TAKEN: u8 = 66;
+const NUMBERS_ANYWHERE_TAKEN: u8 = 67;
+const OMITTED_WITHOUT_REFERENCES_REFUSED: u8 = 68;
+const OMITTED_ONE_REFERENCE_REFUSED: u8 = 69;
+const FIRST_WORD_TAKEN_FOR_A_NUMBER: u8 = 70;
+const FIRST_TWO_NOT_COMPARED_WHEN_OMITTED: u8 = 71;
+const FIRST_REFERENCE_NOT_LOOKED_AT_WHEN_OMITTED: u8 = 72;
 
 /// The words of a message, with the fault of the function that reads them.
 struct Words {
@@ -148,23 +161,58 @@ impl Words {
         self.kind(place) == 4 && zero_bits && (least..=most).contains(&(rest & 63))
     }
 
+    /// The places of a composition's references, if its number words are right.
+    fn references(&self, end: usize) -> Option<Range<usize>> {
+        if !self.is_node() || end < 5 {
+            return None;
+        }
+        let number = |place: usize| place < end && self.is_number(place);
+        let carries = number(5);
+        let first = match self.fault {
+            NUMBER_ALWAYS_WANTED if !carries => return None,
+            NUMBER_NEVER_TAKEN => 5,
+            NUMBER_0_NOT_TAKEN if carries && self.rest(5) == 0 => 5,
+            TWO_NUMBERS_TAKEN if carries && number(6) => 7,
+            EQUAL_NUMBERS_TAKEN if carries && number(6) && self.rest(5) == self.rest(6) => 7,
+            FIRST_WORD_TAKEN_FOR_A_NUMBER if end > 5 => 6,
+            _ => 5 + usize::from(carries),
+        };
+        let after = first < end && number(end - 1);
+        let last = match self.fault {
+            NUMBER_AFTER_REFERENCES_TAKEN if after => end - 1,
+            _ => end,
+        };
+        let refused = match self.fault {
+            NUMBER_4096_REFUSED => carries && self.rest(5) > 4_095,
+            NO_REFERENCE_REFUSED => first == last,
+            OMITTED_WITHOUT_REFERENCES_REFUSED => end == 5,
+            OMITTED_ONE_REFERENCE_REFUSED => !carries && end == 6,
+            _ => false,
+        };
+        (!refused).then_some(first..last)
+    }
+
     fn is_composition(&self, end: usize) -> bool {
-        if !self.is_node() || !self.is_number(5) || end < 6 {
+        let Some(Range { start, end }) = self.references(end) else {
             return false;
-        }
-        if self.has(NUMBER_4096_REFUSED) && self.rest(5) > 4_095
-            || self.has(NO_REFERENCE_REFUSED) && end == 6
-        {
-            return false;
-        }
+        };
         let ends_right = match self.fault {
-            FIRST_INDEX_0 => end == 6 || self.index(6) == 0,
-            INDEX_0_REFUSED => end == 6 || self.index(6) > 0,
-            LAST_INDEX_REFUSED => end == 6 || self.index(end - 1) < 4_095,
+            FIRST_INDEX_0 => end == start || self.index(start) == 0,
+            INDEX_0_REFUSED => end == start || self.index(start) > 0,
+            LAST_INDEX_REFUSED => end == start || self.index(end - 1) < 4_095,
             _ => true,
         };
-        (6..end).all(|place| self.is_reference(place))
-            && (7..end).all(|place| self.rises(place, end))
+        let looked_at = match self.fault {
+            FIRST_REFERENCE_NOT_LOOKED_AT_WHEN_OMITTED => start.max(6),
+            _ => start,
+        };
+        let compared = match self.fault {
+            FIRST_TWO_NOT_COMPARED_WHEN_OMITTED => 7,
+            _ => start + 1,
+        };
+        let passed_over = |place: usize| self.has(NUMBERS_ANYWHERE_TAKEN) && self.is_number(place);
+        (looked_at..end).all(|place| self.is_reference(place) || passed_over(place))
+            && (compared..end).all(|place| passed_over(place) || self.rises(place, start, end))
             && ends_right
     }
 
@@ -172,23 +220,24 @@ impl Words {
         self.rest(place) >> 6 & 4_095
     }
 
-    /// Whether the reference of this place has an index above that of the one before it.
-    fn rises(&self, place: usize, end: usize) -> bool {
+    /// Whether the reference of this place has an index above that of the one before it; the references
+    /// stand from the start to the end.
+    fn rises(&self, place: usize, start: usize, end: usize) -> bool {
         let (before, index) = (self.index(place - 1), self.index(place));
         let count = |place: usize| self.rest(place) & 63;
         match self.fault {
             ORDER_NOT_ASKED => true,
             EQUAL_INDEX_TAKEN => before <= index,
-            INDEX_TWICE_ALONE => (6..place).all(|other| self.index(other) != index),
+            INDEX_TWICE_ALONE => (start..place).all(|other| self.index(other) != index),
             INDEX_TWICE_BESIDE_ITSELF => before != index,
-            COMPARED_WITH_THE_FIRST => self.index(6) < index,
+            COMPARED_WITH_THE_FIRST => self.index(start) < index,
             WHOLE_WORDS_COMPARED => self.rest(place - 1) < self.rest(place),
             COUNTS_COMPARED => count(place - 1) < count(place),
             INDEX_LOW_8_BITS => before % 256 < index % 256,
             INDEX_LOW_11_BITS => before % 2_048 < index % 2_048,
             // After 4,095 the next may be any.
             NEXT_INDEX_12_BITS => (before + 1) % 4_096 <= index,
-            FIRST_TWO_COMPARED => before < index || place > 7,
+            FIRST_TWO_COMPARED => before < index || place > start + 1,
             LAST_REFERENCE_NOT_COMPARED => before < index || place + 1 == end,
             FALLING_ASKED => before > index,
             RISING_BY_1 => before + 1 == index,
@@ -331,6 +380,11 @@ fn every_fault_is_found() {
         SESSION_0_REFUSED NUMBER_4096_REFUSED LEVEL_5_REFUSED NO_REFERENCE_REFUSED NO_BYTES_REFUSED
         LONG_LITERAL_REFUSED NUMBER_FOR_A_PART NUMBER_KIND_NOT_ASKED KIND_3_BITS LOW_BYTE_FIRST
         EMPTY_ACCEPTED NONE_AS_A_QUERY MESSAGE_CHANGED PAST_THE_MESSAGE REFUSED_BY_11
+        NUMBER_ALWAYS_WANTED NUMBER_NEVER_TAKEN NUMBER_0_NOT_TAKEN TWO_NUMBERS_TAKEN
+        EQUAL_NUMBERS_TAKEN NUMBER_AFTER_REFERENCES_TAKEN NUMBERS_ANYWHERE_TAKEN
+        OMITTED_WITHOUT_REFERENCES_REFUSED OMITTED_ONE_REFERENCE_REFUSED
+        FIRST_WORD_TAKEN_FOR_A_NUMBER FIRST_TWO_NOT_COMPARED_WHEN_OMITTED
+        FIRST_REFERENCE_NOT_LOOKED_AT_WHEN_OMITTED
     };
     for (name, function) in functions {
         match run(SEED, count(), function) {

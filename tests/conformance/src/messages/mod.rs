@@ -3,6 +3,7 @@
 mod cases;
 mod compare;
 pub(crate) mod damage;
+pub(crate) mod numbers;
 pub(crate) mod order;
 mod report;
 pub(crate) mod valid;

@@ -5,12 +5,35 @@ use super::compare::{compare, MessageType};
 use super::damage::Damage;
 use crate::failure::Failure;
 use crate::two_threads::in_order;
+use reference::message::{parse, Body};
 use reference::rcds::ACCEPTED;
 use std::collections::BTreeMap;
 use std::fmt;
 
 /// A message of more bytes than this is a long one.
 const LONG: usize = 900_000;
+
+/// Whether a composition has its number.
+#[derive(Clone, Copy, Debug, PartialEq, Eq, PartialOrd, Ord)]
+enum Form {
+    Omits,
+    Carries,
+}
+
+/// The form of a well-formed composition, and whether it has references.
+fn form(message: &[u8]) -> Option<(Form, bool)> {
+    let Body::Composition {
+        number, references, ..
+    } = parse(message)?.body
+    else {
+        return None;
+    };
+    let form = match number {
+        Some(_) => Form::Carries,
+        None => Form::Omits,
+    };
+    Some((form, !references.is_empty()))
+}
 
 /// What ran.
 #[derive(Default)]
@@ -19,6 +42,8 @@ pub struct Report {
     /// Well-formed messages by type.
     accepted: BTreeMap<u64, usize>,
     refused: usize,
+    /// Well-formed compositions that omit the number and that carry it, each without references and with some.
+    forms: BTreeMap<(Form, bool), usize>,
     /// Accepted and refused cases of each family.
     families: BTreeMap<Family, [usize; 2]>,
     /// Accepted and refused messages of about a megabyte.
@@ -45,6 +70,9 @@ impl Report {
         self.bytes += case.message.len();
         self.families.entry(case.family).or_default()[usize::from(refused)] += 1;
         self.long[usize::from(refused)] += usize::from(case.message.len() > LONG);
+        if let Some(form) = form(&case.message) {
+            *self.forms.entry(form).or_default() += 1;
+        }
         match refused {
             true => self.refused += 1,
             false => *self.accepted.entry(answer - ACCEPTED).or_default() += 1,
@@ -57,19 +85,21 @@ impl Report {
         let types: Vec<u64> = self.accepted.keys().copied().collect();
         assert_eq!(types, [1, 2, 3, 4, 5, 6], "types that were accepted");
         assert!(self.refused > 0, "no case was refused");
+        assert_eq!(self.forms.len(), 4, "forms of compositions");
         assert!(self.long.iter().all(|&count| count > 0), "long messages");
         for family in families() {
             let [accepted, refused] = self.families[&family];
-            let not_rising = matches!(family, Family::Damaged(Damage::Order(_)));
+            let never = matches!(
+                family,
+                Family::Damaged(Damage::Order(_) | Damage::Numbers(_))
+            );
             let may_be_accepted =
-                !not_rising && !matches!(family, Family::AnyBytes | Family::WrappedWidth);
+                !never && !matches!(family, Family::AnyBytes | Family::WrappedWidth);
+            let always = matches!(family, Family::Valid | Family::BothForms);
             let name = format!("{family:?}");
             assert!(accepted > 0 || !may_be_accepted, "{name}: none accepted");
-            assert!(accepted == 0 || !not_rising, "{name}: one accepted");
-            assert!(
-                refused > 0 || family == Family::Valid,
-                "{name}: none refused"
-            );
+            assert!(accepted == 0 || !never, "{name}: one accepted");
+            assert_eq!(refused == 0, always, "{name}: {refused} refused");
         }
     }
 }
@@ -80,16 +110,21 @@ impl fmt::Display for Report {
         let types: Vec<String> = types
             .map(|(number, count)| format!("{number} {count}"))
             .collect();
+        let forms = self.forms.iter();
+        let forms: Vec<String> = forms
+            .map(|((form, references), count)| format!("{form:?} {references} {count}"))
+            .collect();
         let families = self.families.iter();
         let families: Vec<String> = families
             .map(|(family, [accepted, refused])| format!("{family:?} {accepted} and {refused}"))
             .collect();
         write!(
             f,
-            "{} messages, {} MB, as the reference has them: type {}; refused by 10 {}; of about a megabyte {} and {} refused; accepted and refused of each family: {}",
+            "{} messages, {} MB, as the reference has them: type {}; compositions, with references or without: {}; refused by 10 {}; of about a megabyte {} and {} refused; accepted and refused of each family: {}",
             self.cases,
             self.bytes / 1_000_000,
             types.join(", "),
+            forms.join(", "),
             self.refused,
             self.long[0],
             self.long[1],

@@ -49,7 +49,8 @@ pub fn message(message_type: u32, sizes: &Sizes, random: &mut Random) -> Message
         4 => Body::Composition {
             level,
             id,
-            number: number(4_095, random),
+            // "Writing and reading a message must still agree for both lengths." (document 02, request 5)
+            number: random.percent(50).then(|| number(4_095, random)),
             references: references(size(sizes.references, random), random),
         },
         5 => Body::Literal {

@@ -8,7 +8,8 @@ use crate::content::{self, Content, KINDS};
 use crate::failure::first_bytes;
 use crate::random::{family_of, together, Random};
 use crate::settings::{
-    any_allowed, any_length, edge_settings, many_nodes, most_nodes, with_nominal, NOMINALS,
+    any_allowed, any_length, edge_settings, many_nodes, most_nodes, shortest_blocks, with_nominal,
+    NOMINALS,
 };
 use reference::lent::Lent;
 use reference::sender;
@@ -83,6 +84,11 @@ pub enum Family {
     Repeated,
     /// Short blocks of few symbols: many of the orders have a number above 255, or above 4,095.
     HighNumber,
+    /// Few short blocks, some of them again: queries for nodes whose trail is the only one, or the first or
+    /// another of several.
+    SeveralTrails,
+    /// Every node of some trees.
+    EveryNode,
     /// Queries for nodes that are not there.
     Absent,
     /// Queries with damage.
@@ -93,6 +99,8 @@ pub enum Family {
     Rising,
     /// The same with references that do not rise, and right otherwise.
     NotRising,
+    /// The same with a number word where none may stand, and right otherwise.
+    Misplaced,
     /// Buffers that are exactly long enough, one byte short, empty, longer, or of any size.
     Room,
     /// Another string lent than at setup.
@@ -127,19 +135,29 @@ pub enum Family {
     Long,
 }
 
+/// Of how many trees every node is asked for, and how many nodes a tree has at most of which that holds.
+const TREES: usize = 40;
+const NODES: usize = 96;
+
+/// How often a string is drawn again until it has a node with such trails.
+const DRAWS: usize = 20;
+
 /// The families, and how many cases each has.
-pub const FAMILIES: [(Family, usize); 27] = [
+pub const FAMILIES: [(Family, usize); 30] = [
     (Family::Opening, 11 * 7 * 4 * 4),
     (Family::Node, 11 * 7 * 4 * 20),
     (Family::Root, 600),
     (Family::LastLevel, 800),
     (Family::Repeated, 1_200),
     (Family::HighNumber, 1_000),
+    (Family::SeveralTrails, 1_500),
+    (Family::EveryNode, TREES * NODES),
     (Family::Absent, ABSENT * 150),
     (Family::Damaged, 1_800),
     (Family::OtherType, 900),
     (Family::Rising, 300),
     (Family::NotRising, 600),
+    (Family::Misplaced, 400),
     (Family::Room, 2_400),
     (Family::OtherString, OTHER_STRINGS * 250),
     (Family::EndOutside, 300),
@@ -171,12 +189,17 @@ pub fn case(seed: u64, number: usize) -> Case {
 
 fn family_case(family: Family, place: usize, seed: u64, number: usize) -> Case {
     let mut random = Random::of_case(seed, number);
+    let (content, mut sender) = match family {
+        // The cases of one tree draw the same string and the same settings.
+        Family::EveryNode => {
+            let tree = place / NODES;
+            let mut of_tree = Random::of_case(seed, count() + tree);
+            with_such_a_node(family, tree, &mut of_tree)
+        }
+        Family::SeveralTrails => with_such_a_node(family, place, &mut random),
+        _ => content_and_sender(family, place, &mut random),
+    };
     let random = &mut random;
-    let settings = settings(family, place, random);
-    let content = content(family, place, random);
-    let length = length(family, place, &settings, random);
-    let string = content::string(content, length, random);
-    let mut sender = Sender::new(settings, random.between(1, 64), string, random);
     let mut message = message(family, place, &sender, random);
     let mut state = sender.state();
     match family {
@@ -222,6 +245,28 @@ fn family_case(family: Family, place: usize, seed: u64, number: usize) -> Case {
     }
 }
 
+/// A sender that is set up, and what its string holds.
+fn content_and_sender(family: Family, place: usize, random: &mut Random) -> (Content, Sender) {
+    let settings = settings(family, place, random);
+    let content = content(family, place, random);
+    let length = length(family, place, &settings, random);
+    let string = content::string(content, length, random);
+    let width = random.between(1, 64);
+    (content, Sender::new(settings, width, string, random))
+}
+
+/// The same, drawn again while it has no node with trails of the kind whose turn it is, but not for ever.
+fn with_such_a_node(family: Family, place: usize, random: &mut Random) -> (Content, Sender) {
+    let mut drawn = content_and_sender(family, place, random);
+    for _ in 0..DRAWS {
+        if !queries::with_trails(&drawn.1, place).is_empty() {
+            break;
+        }
+        drawn = content_and_sender(family, place, random);
+    }
+    drawn
+}
+
 fn settings(family: Family, place: usize, random: &mut Random) -> Settings {
     match family {
         Family::Opening | Family::Node => {
@@ -229,6 +274,7 @@ fn settings(family: Family, place: usize, random: &mut Random) -> Settings {
             with_nominal(2 + w as u64, 2 + p as u64, 1 + levels as u64, random)
         }
         Family::HighNumber => short_blocks(random),
+        Family::SeveralTrails | Family::EveryNode => shortest_blocks(random),
         Family::Long if place % 6 == 0 => longest_block(),
         Family::EndOutside => {
             let (w, p, levels) = (
@@ -270,6 +316,14 @@ fn longest_block() -> Settings {
 fn content(family: Family, place: usize, random: &mut Random) -> Content {
     match family {
         Family::HighNumber => Content::FewSymbols,
+        Family::SeveralTrails | Family::EveryNode => random.one_of(&[
+            Content::FewSymbols,
+            Content::FewSymbols,
+            Content::FewSymbols,
+            Content::Repeats,
+            Content::Edited,
+            Content::Random,
+        ]),
         Family::ManyNodes => [Content::Zeros, Content::AllEqual][place % 2],
         Family::Long if place % 6 == 0 => [Content::Zeros, Content::Random][place / 6 % 2],
         Family::Repeated => random.one_of(&[
@@ -286,6 +340,7 @@ fn content(family: Family, place: usize, random: &mut Random) -> Content {
 fn length(family: Family, place: usize, settings: &Settings, random: &mut Random) -> usize {
     match family {
         Family::HighNumber => random.between(60, 200) as usize,
+        Family::SeveralTrails | Family::EveryNode => random.between(6, 40) as usize,
         Family::ManyNodes if place % 3 == 0 => 4_527,
         Family::ManyNodes => random.by_size(2_000, 12_000) as usize,
         Family::EndOutside => any_length(settings, 20, 2_000, random),
@@ -306,11 +361,17 @@ fn message(family: Family, place: usize, sender: &Sender, random: &mut Random) -
         Family::LastLevel => queries::of_the_last_level(sender, random),
         Family::Repeated => queries::of_a_repeated_node(sender, random),
         Family::HighNumber => queries::of_a_high_number(sender, place, random),
+        Family::SeveralTrails => queries::of_several_trails(sender, place, random),
+        Family::EveryNode => {
+            assert!(sender.nodes().len() <= NODES, "a node is not asked for");
+            queries::of_each(sender, place % NODES, random)
+        }
         Family::Absent => queries::absent(sender, place, random),
         Family::Damaged => queries::damaged_query(sender, place, random),
         Family::OtherType => queries::other_type(sender, place, random),
         Family::Rising => queries::composition(sender, random),
         Family::NotRising => queries::not_rising(sender, place, random),
+        Family::Misplaced => queries::misplaced_number(sender, place, random),
         Family::OtherString => match place / OTHER_STRINGS % 4 {
             0 => queries::of_the_last_level(sender, random),
             1 => queries::of_a_repeated_node(sender, random),
@@ -347,9 +408,12 @@ fn room(family: Family, place: usize, reply: usize, random: &mut Random) -> usiz
             6 => reply.saturating_sub(random.between(0, 8) as usize),
             _ => any,
         },
+        // So that every node is replied to.
+        Family::EveryNode => random.one_of(&[reply, longer]),
         Family::OtherType
         | Family::Rising
         | Family::NotRising
+        | Family::Misplaced
         | Family::Damaged
         | Family::Several => random.one_of(&[0, 8, 100, 3_000, longer]),
         Family::OtherString

@@ -1,6 +1,7 @@
 //! One call and one comparison.
 
 use super::cases::Case;
+use super::form::{form, Form};
 use super::setup::held;
 use crate::clock::timed;
 use crate::failure::{Difference, Failure};
@@ -48,6 +49,8 @@ pub struct Done {
     pub reply_type: u32,
     /// A literal of a node above the last level.
     pub high_number: bool,
+    /// The form of a composition that is compared with the reference's.
+    pub form: Option<Form>,
     /// References of a composition, and the largest of their counts.
     pub references: usize,
     pub largest_count: u32,
@@ -134,7 +137,7 @@ fn call(case: &Case, function: Reply) -> Result<Done, Difference> {
     }
     Ok(Done {
         same,
-        ..done(given, &expected_out, settings.levels, compared)
+        ..done(case, given, &expected_out, compared)
     })
 }
 
@@ -179,11 +182,12 @@ fn one_of_its_own(
 }
 
 /// What the case came to.
-fn done(answer: u64, out: &[u8], levels: u64, compared: Compared) -> Done {
+fn done(case: &Case, answer: u64, out: &[u8], compared: Compared) -> Done {
     let mut done = Done {
         answer,
         reply_type: 0,
         high_number: false,
+        form: None,
         references: 0,
         largest_count: 0,
         bytes: 0,
@@ -198,13 +202,22 @@ fn done(answer: u64, out: &[u8], levels: u64, compared: Compared) -> Done {
     };
     done.reply_type = reply.body.message_type();
     match reply.body {
-        Body::Composition { references, .. } => {
+        Body::Composition {
+            number, references, ..
+        } => {
+            let list = case.lent.shingle_list();
+            done.form = match compared {
+                Compared::Exact => Some(form(number, &references, &list)),
+                _ => None,
+            };
             done.references = references.len();
             let counts = references.iter().map(|reference| reference.count);
             done.largest_count = counts.max().unwrap_or(0);
         }
         Body::Literal { level, bytes, .. } => {
-            done.high_number = compared == Compared::Exact && u64::from(level) < levels;
+            let (settings, _) = held(&case.state);
+            let above = u64::from(level) < settings.levels;
+            done.high_number = compared == Compared::Exact && above;
             done.bytes = bytes.len();
         }
         _ => {}

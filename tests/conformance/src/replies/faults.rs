@@ -7,7 +7,7 @@ use super::compare::Reply;
 use super::report::run;
 use super::setup::held;
 use crate::lent::{part, part_mut};
-use crate::messages::order;
+use crate::messages::{numbers, order};
 use crate::openings::lists::cells_there;
 use reference::fnv::fnv1a;
 use reference::lent::Lent;
@@ -16,7 +16,7 @@ use reference::node_table;
 use reference::settings::Settings;
 use reference::shingle::{children, Shingle};
 use reference::sketch::sketch;
-use reference::trail::{multiset, number_of_order, pairs};
+use reference::trail::{multiset, number_of_order, pairs, trail};
 use reference::tree::Node;
 use reference::word::Reference;
 
@@ -83,9 +83,22 @@ const CELLS_CHANGED: u8 = 59;
 const MESSAGE_CHANGED: u8 = 60;
 const PAST_THE_BUFFER: u8 = 61;
 const BEFORE_THE_BUFFER: u8 = 62;
-const FREE_REPLY_NO_MESSAGE: u8 = 63;
-const FREE_ANSWER_14: u8 = 64;
-const FREE_REPLY_OTHER_SESSION: u8 = 65;
+const NUMBER_ALWAYS_WRITTEN: u8 = 63;
+const NUMBER_NEVER_WRITTEN: u8 = 64;
+const NUMBER_0_OMITTED: u8 = 65;
+const OMITTED_OF_ONE_CHILD_ALONE: u8 = 66;
+const OMITTED_OF_DIFFERENT_CHILDREN_ALONE: u8 = 67;
+const LAST_NUMBER_OMITTED: u8 = 68;
+const OMITTED_OF_TWO_TRAILS: u8 = 69;
+const OMITTED_WHERE_OTHERS_ARE: u8 = 70;
+const NUMBER_AFTER_THE_REFERENCES: u8 = 71;
+const OMITTED_BUT_COUNTED: u8 = 72;
+const MISPLACED_BY_11: u8 = 73;
+
+// Where the reply is free: the highest numbers.
+const FREE_REPLY_NO_MESSAGE: u8 = 100;
+const FREE_ANSWER_14: u8 = 101;
+const FREE_REPLY_OTHER_SESSION: u8 = 102;
 
 /// The settings that a state holds, and the width.
 fn settings(fault: u8, state: &[u8]) -> (Settings, u64) {
@@ -126,7 +139,7 @@ fn refused(fault: u8, settings: &Settings, width: u64, state: &[u8], lent: &Lent
 }
 
 /// What a message asks: the reference's reading, or one that looks at the head alone, or does not ask in which
-/// order references stand.
+/// order references stand, or where a number does.
 fn read(fault: u8, message: &[u8]) -> Option<Message> {
     if fault == ONLY_HEAD_READ && message.len() >= 4 {
         let session = u32::from_be_bytes([0, message[1], message[2], message[3]]);
@@ -139,6 +152,7 @@ fn read(fault: u8, message: &[u8]) -> Option<Message> {
     }
     match fault {
         NOT_RISING_BY_11 => parse(&order::put_in_order(message)),
+        MISPLACED_BY_11 => parse(&numbers::put_in_place(message)),
         _ => parse(message),
     }
 }
@@ -212,14 +226,14 @@ fn composition(
     settings: &Settings,
     nodes: &[Node],
     k: usize,
-) -> Option<(u32, Vec<Reference>)> {
+) -> Option<(Option<u32>, Vec<Reference>)> {
     let level = nodes[k].level;
     let last = match fault {
         LEVEL_4_IS_LAST => 4,
         _ => settings.levels,
     };
     if level >= last {
-        return (fault == COMPOSITION_AT_LAST_LEVEL).then(|| (0, Vec::new()));
+        return (fault == COMPOSITION_AT_LAST_LEVEL).then(|| (None, Vec::new()));
     }
     let mut ids: Vec<u64> = children(nodes, k).iter().map(|child| child.id).collect();
     if fault == GRANDCHILDREN_TOO {
@@ -258,13 +272,49 @@ fn composition(
         references.extend(vec![one; times]);
     }
     put_in_order(fault, &mut references, &list, &ids);
-    Some((
-        match fault {
-            NUMBER_ALWAYS_0 => 0,
-            _ => number as u32,
-        },
-        references,
-    ))
+    let written = match fault {
+        NUMBER_ALWAYS_0 => 0,
+        _ => number as u32,
+    };
+    Some((carries(fault, &ids, number).then_some(written), references))
+}
+
+/// Whether the number of an order is written: where a second trail exists over its pairs.
+fn carries(fault: u8, ids: &[u64], number: u64) -> bool {
+    let over = multiset(&pairs(ids));
+    let exists = |number: u64| trail(&over, u128::from(number)).is_some();
+    let different = |ids: &[u64]| (1..ids.len()).all(|k| !ids[..k].contains(&ids[k]));
+    match fault {
+        NUMBER_ALWAYS_WRITTEN => true,
+        NUMBER_NEVER_WRITTEN => false,
+        NUMBER_0_OMITTED => number > 0,
+        OMITTED_OF_ONE_CHILD_ALONE => ids.len() > 1,
+        OMITTED_OF_DIFFERENT_CHILDREN_ALONE => !different(ids),
+        LAST_NUMBER_OMITTED => exists(number + 1),
+        OMITTED_OF_TWO_TRAILS => exists(2),
+        OMITTED_WHERE_OTHERS_ARE => !exists(1),
+        _ => exists(1),
+    }
+}
+
+/// The bytes of a reply; of a composition with its number after the references, or with the number that it
+/// omits among the words that its end counts.
+fn encoded(fault: u8, message: &Message) -> Vec<u8> {
+    let mut bytes = encode(message);
+    let end = bytes.len() - 4;
+    match (fault, &message.body) {
+        (
+            NUMBER_AFTER_THE_REFERENCES,
+            Body::Composition {
+                number: Some(_), ..
+            },
+        ) => {
+            bytes[20..end].rotate_left(4);
+        }
+        (OMITTED_BUT_COUNTED, Body::Composition { number: None, .. }) => bytes[end + 3] += 1,
+        _ => {}
+    }
+    bytes
 }
 
 /// References rising by index; or falling, or as these children first name them.
@@ -365,7 +415,7 @@ fn reply(fault: u8, state: &[u8], lent: &Lent, message: &[u8], out: &mut [u8]) -
         SESSION_0 => 0,
         _ => query.session,
     };
-    write(fault, &encode(&Message { session, body }), out)
+    write(fault, &encoded(fault, &Message { session, body }), out)
 }
 
 fn write(fault: u8, bytes: &[u8], out: &mut [u8]) -> u64 {
@@ -477,8 +527,11 @@ fn every_fault_is_found() {
         LAST_CHILD_LEFT_OUT LENGTH_AT_SETUP ROOT_OF_THE_STRING CELLS_OF_THE_LIST CELL_VALUES_REORDERED
         RULE_0 SESSION_16_BITS SESSION_0 EXACT_ROOM_REFUSED WRITTEN_AT_20 REST_CLEARED
         CLEARED_WHEN_REFUSED COUNTS_WORDS STATE_CHANGED STRING_CHANGED NODES_CHANGED SHINGLES_CHANGED
-        CELLS_CHANGED MESSAGE_CHANGED PAST_THE_BUFFER BEFORE_THE_BUFFER FREE_REPLY_NO_MESSAGE
-        FREE_ANSWER_14 FREE_REPLY_OTHER_SESSION
+        CELLS_CHANGED MESSAGE_CHANGED PAST_THE_BUFFER BEFORE_THE_BUFFER NUMBER_ALWAYS_WRITTEN
+        NUMBER_NEVER_WRITTEN NUMBER_0_OMITTED OMITTED_OF_ONE_CHILD_ALONE
+        OMITTED_OF_DIFFERENT_CHILDREN_ALONE LAST_NUMBER_OMITTED OMITTED_OF_TWO_TRAILS
+        OMITTED_WHERE_OTHERS_ARE NUMBER_AFTER_THE_REFERENCES OMITTED_BUT_COUNTED MISPLACED_BY_11
+        FREE_REPLY_NO_MESSAGE FREE_ANSWER_14 FREE_REPLY_OTHER_SESSION
     };
     let mut passed = Vec::new();
     for (name, function) in functions {

@@ -3,6 +3,7 @@
 mod altered;
 mod cases;
 mod compare;
+pub(crate) mod form;
 mod queries;
 mod report;
 pub(crate) mod setup;

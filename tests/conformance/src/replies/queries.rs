@@ -2,12 +2,13 @@
 
 use super::setup::Sender;
 use crate::messages::damage::{damaged, Damage};
+use crate::messages::numbers::{in_other_form, misplaced, MISPLACED};
 use crate::messages::order::{disordered, DISORDERS};
 use crate::messages::valid::{self, SMALL};
 use crate::random::Random;
 use reference::message::{encode, parse, Body, Message};
 use reference::shingle::children;
-use reference::trail::{number_of_order, MOST_NUMBER};
+use reference::trail::{is_only_trail, number_of_order, MOST_NUMBER};
 use reference::tree::Node;
 use std::collections::BTreeMap;
 
@@ -105,6 +106,44 @@ pub fn of_a_high_number(sender: &Sender, place: usize, random: &mut Random) -> V
     }
 }
 
+/// The nodes whose children's trail is the only one though an id comes again, or the first of several, or
+/// another of them, in turn.
+pub fn with_trails(sender: &Sender, place: usize) -> Vec<Node> {
+    let nodes = sender.nodes();
+    let is = |k: &usize| {
+        let mut ids: Vec<u64> = children(&nodes, *k).iter().map(|child| child.id).collect();
+        let Some(number) = number_of_order(&ids) else {
+            return false;
+        };
+        let only = is_only_trail(&ids);
+        let all = ids.len();
+        ids.sort();
+        ids.dedup();
+        match place % 3 {
+            0 => only && ids.len() < all,
+            1 => !only && number == 0,
+            _ => !only && (1..=MOST_NUMBER).contains(&number),
+        }
+    };
+    (0..nodes.len()).filter(is).map(|k| nodes[k]).collect()
+}
+
+/// A query for one of those, or for any where there is none.
+pub fn of_several_trails(sender: &Sender, place: usize, random: &mut Random) -> Vec<u8> {
+    let such = with_trails(sender, place);
+    match such.is_empty() {
+        true => of_one(&sender.nodes(), random),
+        false => of_one(&such, random),
+    }
+}
+
+/// A query for one node after the other, and from the first on again.
+pub fn of_each(sender: &Sender, place: usize, random: &mut Random) -> Vec<u8> {
+    let nodes = sender.nodes();
+    let node = nodes[place % nodes.len()];
+    node_query(node.level as u32, node.id, random)
+}
+
 /// A query for a node above the last level, and a length of string that ends inside the next entry
 /// which is not deeper, with the first of its children inside; if the sender has such nodes.
 pub fn with_end_outside(sender: &Sender, random: &mut Random) -> Option<(Vec<u8>, usize)> {
@@ -179,14 +218,18 @@ pub fn other_type(sender: &Sender, place: usize, random: &mut Random) -> Vec<u8>
     message
 }
 
-/// A composition whose references rise: the sender's own, where the node has one, or any.
+/// A composition whose references rise: the sender's own, where the node has one, with or without its number,
+/// or any.
 pub fn composition(sender: &Sender, random: &mut Random) -> Vec<u8> {
     let level = random.between(0, sender.settings.levels - 1) as usize;
     let query = of_any_level(sender, level, random);
     let own = replied(sender, &query);
     let body = parse(&own).map(|reply| reply.body);
     match body {
-        Some(Body::Composition { .. }) if random.percent(50) => own,
+        Some(Body::Composition { .. }) if random.percent(30) => own,
+        Some(Body::Composition { .. }) if random.percent(40) => {
+            in_other_form(&own, random).expect("a composition")
+        }
         _ => encode(&valid::message(4, &SMALL, random)),
     }
 }
@@ -197,6 +240,17 @@ pub fn not_rising(sender: &Sender, place: usize, random: &mut Random) -> Vec<u8>
     loop {
         let whole = composition(sender, random);
         if let Some(changed) = disordered(&whole, disorder, random) {
+            return changed;
+        }
+    }
+}
+
+/// A composition with a number word where none may stand, and which is right otherwise; the places in turn.
+pub fn misplaced_number(sender: &Sender, place: usize, random: &mut Random) -> Vec<u8> {
+    let kind = MISPLACED[place % MISPLACED.len()];
+    loop {
+        let whole = composition(sender, random);
+        if let Some(changed) = misplaced(&whole, kind, random) {
             return changed;
         }
     }

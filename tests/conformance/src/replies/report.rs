@@ -2,6 +2,7 @@
 
 use super::cases::{case, Case, Family, FAMILIES};
 use super::compare::{compare, Compared, Done, Reply};
+use super::form::{Form, FORMS};
 use crate::content::KINDS;
 use crate::failure::Failure;
 use crate::two_threads::in_order;
@@ -19,9 +20,14 @@ pub struct Report {
     /// Accepted, by the type of the reply.
     accepted: BTreeMap<u32, usize>,
     refused: BTreeMap<u64, usize>,
-    /// Compositions whose references rise, refused by 11, and do not rise, refused by 10.
+    /// Compositions whose references rise, refused by 11, and do not rise, refused by 10; and those with a
+    /// number word where none may stand, refused by 10.
     rising_by_11: usize,
     not_rising_by_10: usize,
+    misplaced_by_10: usize,
+    /// Compositions by their forms; and of the cases of trees of which every node is asked for.
+    forms: BTreeMap<Form, usize>,
+    forms_of_trees: BTreeMap<Form, usize>,
     /// Cases of each comparison: accepted, refused by 20, and how many are as the reference has them.
     compared: BTreeMap<Compared, [usize; 3]>,
     /// Accepted replies that are no message.
@@ -66,6 +72,7 @@ impl Report {
         match (case.family, done.answer) {
             (Family::Rising, 11) => self.rising_by_11 += 1,
             (Family::NotRising, 10) => self.not_rising_by_10 += 1,
+            (Family::Misplaced, 10) => self.misplaced_by_10 += 1,
             _ => {}
         }
         if refused {
@@ -78,6 +85,11 @@ impl Report {
         }
         self.exact_room += usize::from(done.answer - ACCEPTED == case.room as u64);
         self.high_numbers += usize::from(done.high_number);
+        if let Some(form) = done.form {
+            *self.forms.entry(form).or_default() += 1;
+            let of_trees = self.forms_of_trees.entry(form).or_default();
+            *of_trees += usize::from(case.family == Family::EveryNode);
+        }
         self.empty += usize::from(done.reply_type == 5 && done.bytes == 0);
         self.longest += usize::from(done.bytes == 65_536);
         if done.compared == Compared::Exact {
@@ -103,9 +115,15 @@ impl Report {
         );
         assert!(self.largest_count >= 16, "no large count of a reference");
         assert_eq!(self.compared.len(), 3, "comparisons");
+        for form in FORMS {
+            let [all, of_trees] = [&self.forms, &self.forms_of_trees]
+                .map(|forms| forms.get(&form).copied().unwrap_or(0));
+            assert!(all >= 50 && of_trees >= 5, "{form:?}: {all}, {of_trees}");
+        }
         let compositions = [
             (Family::Rising, self.rising_by_11),
             (Family::NotRising, self.not_rising_by_10),
+            (Family::Misplaced, self.misplaced_by_10),
         ];
         for (family, count) in compositions {
             assert_eq!(self.families[&family], [0, count], "{family:?}");
@@ -119,7 +137,8 @@ impl Report {
                 accepted > 0 || !is_accepted(family),
                 "{name}: none accepted"
             );
-            assert!(refused > 0 || is_small(family), "{name}: none refused");
+            let none = is_small(family) || family == Family::EveryNode;
+            assert!(refused > 0 || none, "{name}: none refused");
         }
     }
 }
@@ -128,7 +147,7 @@ impl Report {
 fn is_accepted(family: Family) -> bool {
     !matches!(
         family,
-        Family::OtherType | Family::Rising | Family::NotRising
+        Family::OtherType | Family::Rising | Family::NotRising | Family::Misplaced
     )
 }
 
@@ -151,12 +170,20 @@ impl fmt::Display for Report {
         let compared = compared.map(|(how, [accepted, refused, same])| {
             format!("{how:?} {accepted}, {refused}, {same}")
         });
+        let [forms, of_trees] = [&self.forms, &self.forms_of_trees].map(|forms| {
+            let forms = forms.iter();
+            list(
+                forms
+                    .map(|(form, count)| format!("{form:?} {count}"))
+                    .collect(),
+            )
+        });
         let families = self.families.iter();
         let families = families
             .map(|(family, [accepted, refused])| format!("{family:?} {accepted} and {refused}"));
         write!(
             f,
-            "{} cases: accepted {} and {} that are no message ({} fill the buffer, {} literals for a number above 4,095, {} empty, {} of 65,536 bytes; at most {} references, largest count {}); refused {}; compositions that rise refused by 11 {} and others by 10 {}; accepted, refused by 20, and as the reference has them of each comparison: {}; accepted and refused of each family: {}",
+            "{} cases: accepted {} and {} that are no message ({} fill the buffer, {} literals for a number above 4,095, {} empty, {} of 65,536 bytes; at most {} references, largest count {}; numbers of compositions: {}, and of trees whose every node is asked for: {}); refused {}; compositions that rise refused by 11 {}, others by 10 {}, and with a number elsewhere by 10 {}; accepted, refused by 20, and as the reference has them of each comparison: {}; accepted and refused of each family: {}",
             self.cases,
             list(accepted.collect()),
             self.no_messages,
@@ -166,9 +193,12 @@ impl fmt::Display for Report {
             self.longest,
             self.most_references,
             self.largest_count,
+            forms,
+            of_trees,
             list(refused.collect()),
             self.rising_by_11,
             self.not_rising_by_10,
+            self.misplaced_by_10,
             compared.collect::<Vec<_>>().join("; "),
             list(families.collect()),
         )

@@ -5,7 +5,7 @@ use super::strings::{self, Pair};
 use crate::content::{self, Content, KINDS};
 use crate::failure::first_bytes;
 use crate::random::{family_of, together, Random};
-use crate::settings::{edge_settings, many_nodes, most_nodes, NOMINALS};
+use crate::settings::{edge_settings, many_nodes, most_nodes, shortest_blocks, NOMINALS};
 use reference::lent::Lent as Memory;
 use reference::message::{encode, Body, Message};
 use reference::rcds::ACCEPTED;
@@ -95,6 +95,10 @@ pub enum Family {
     Forged,
     /// Before each composition the same with references that do not rise, at every call that reads it.
     NotRising,
+    /// Before each composition the same with another number, without its number or with number words elsewhere.
+    OtherForms,
+    /// The same of strings that have a node with several trails.
+    SeveralTrails,
     /// Forged messages, over altered strings, tables and outputs.
     AlteredMemory,
     /// Forged messages, over altered states.
@@ -130,11 +134,13 @@ pub enum Family {
 }
 
 /// The families, and how many cases each has.
-pub const FAMILIES: [(Family, usize); 20] = [
+pub const FAMILIES: [(Family, usize); 22] = [
     (Family::Plain, 11 * 7 * 4 * 12),
     (Family::Link, 4_000),
     (Family::Forged, 7_000),
     (Family::NotRising, 600),
+    (Family::OtherForms, 390),
+    (Family::SeveralTrails, 600),
     (Family::AlteredMemory, 4_000),
     (Family::AlteredState, 5_000),
     (Family::Everything, 2_500),
@@ -241,7 +247,7 @@ fn one_memory(case: &mut Case, place: usize) {
 
 fn content(family: Family, place: usize, random: &mut Random) -> Content {
     match family {
-        Family::ManyTrails => Content::FewSymbols,
+        Family::ManyTrails | Family::SeveralTrails => Content::FewSymbols,
         Family::ManyNodes => [Content::Zeros, Content::AllEqual][place % 2],
         Family::MostReplies | Family::Endless => Content::Zeros,
         Family::Long => [Content::Random, Content::Samples][place % 2],
@@ -258,6 +264,7 @@ fn content(family: Family, place: usize, random: &mut Random) -> Content {
 fn length(family: Family, place: usize, random: &mut Random) -> usize {
     match family {
         Family::ManyTrails => random.between(60, 200) as usize,
+        Family::SeveralTrails => random.between(8, 40) as usize,
         Family::ManyNodes => random.between(3_000, 7_000) as usize,
         Family::MostReplies | Family::Endless => 4_527,
         Family::Middle => random.by_size(400, 5_000) as usize,
@@ -284,6 +291,7 @@ fn settings(family: Family, place: usize, length: usize, random: &mut Random) ->
             edge_settings(4 * place + random.between(0, 3) as usize)
         }
         Family::ManyTrails => strings::many_trails(random),
+        Family::SeveralTrails => shortest_blocks(random),
         Family::ManyNodes if place % 3 == 0 => most_nodes(),
         Family::ManyNodes => many_nodes(random),
         Family::MostReplies | Family::Endless => most_nodes(),
@@ -312,6 +320,12 @@ fn two_strings(
             let mut own = sender.clone();
             strings::edit(&mut own, random);
             own.truncate(65_536);
+            (Pair::OneEdit, sender, own)
+        }
+        Family::SeveralTrails => {
+            let sender = strings::with_several_trails(settings, content, length, random);
+            let mut own = sender.clone();
+            strings::edit(&mut own, random);
             (Pair::OneEdit, sender, own)
         }
         // A block of the other's tree needs settings that cut.
@@ -405,6 +419,11 @@ fn course(family: Family, random: &mut Random) -> Course {
             ..Course::default()
         },
         Family::Link | Family::NotRising => link,
+        Family::OtherForms | Family::SeveralTrails => Course {
+            turns: random.by_size(0, 20),
+            rounds: 120,
+            ..link
+        },
         Family::Forged => Course {
             forged: chance,
             ..link

@@ -1,8 +1,10 @@
 //! What the calls of sessions came to.
 
 use super::forged::Forgery;
+use super::other_forms::OtherForm;
 use crate::lent::{is_shared, Lent};
 use crate::messages::order::Disorder;
+use crate::replies::form::Form;
 use reference::rcds::ACCEPTED;
 use std::collections::BTreeMap;
 
@@ -110,8 +112,8 @@ pub struct Counts {
     /// Literals accepted of nodes above the last level, and empty ones.
     pub literals_above: usize,
     pub literals_empty: usize,
-    /// Compositions accepted with a number above 0.
-    pub numbers: usize,
+    /// Compositions accepted, by their forms.
+    pub forms: BTreeMap<Form, usize>,
     /// Calls over altered tables, strings or outputs, and over altered states.
     pub altered_memory: usize,
     pub altered_states: usize,
@@ -121,6 +123,10 @@ pub struct Counts {
     /// genuine ones that were accepted right after such.
     pub not_rising: BTreeMap<Disorder, usize>,
     pub accepted_after: usize,
+    /// Compositions in other forms than the genuine one, which was outstanding; and the genuine ones that were
+    /// accepted right after such.
+    pub other_forms: BTreeMap<OtherForm, usize>,
+    pub accepted_after_forms: usize,
     /// Calls with pieces lent so.
     pub lendings: BTreeMap<(Call, Lending), usize>,
 }
@@ -160,6 +166,8 @@ impl Counts {
         add_each(&mut self.accepted, &other.accepted);
         add_each(&mut self.alone, &other.alone);
         add_each(&mut self.not_rising, &other.not_rising);
+        add_each(&mut self.forms, &other.forms);
+        add_each(&mut self.other_forms, &other.other_forms);
         add_each(&mut self.lendings, &other.lendings);
         for (kind, [accepted, refused]) in &other.forged {
             let counts = self.forged.entry(*kind).or_default();
@@ -174,10 +182,10 @@ impl Counts {
             (&mut self.by_opening, other.by_opening),
             (&mut self.literals_above, other.literals_above),
             (&mut self.literals_empty, other.literals_empty),
-            (&mut self.numbers, other.numbers),
             (&mut self.altered_memory, other.altered_memory),
             (&mut self.altered_states, other.altered_states),
             (&mut self.accepted_after, other.accepted_after),
+            (&mut self.accepted_after_forms, other.accepted_after_forms),
         ];
         sums.into_iter().for_each(|(sum, more)| *sum += more);
     }

@@ -9,6 +9,7 @@ use super::endless;
 use super::forged::{forged, Known};
 use super::lockstep::{Broken, Lockstep, Outcome};
 use super::not_rising;
+use super::other_forms;
 use crate::failure::{first_bytes, Failure};
 use crate::random::Random;
 use crate::replies::setup::held;
@@ -253,8 +254,12 @@ impl<'a> Session<'a> {
     /// Takes a message, or one that is forged in its place; over altered memory or an altered state,
     /// where the case says so.
     fn take(&mut self, message: &[u8]) -> Outcome<u64> {
-        if self.case.family == Family::NotRising {
-            return self.take_after_not_rising(message);
+        match self.case.family {
+            Family::NotRising => return self.take_after_not_rising(message),
+            Family::OtherForms | Family::SeveralTrails => {
+                return self.take_after_other_forms(message);
+            }
+            _ => {}
         }
         let saved = self.alter();
         let forged = match self.random.percent(self.course.forged) {
@@ -285,6 +290,15 @@ impl<'a> Session<'a> {
         let accepted = answer == 0 || answer >= ACCEPTED;
         self.ends.counts.accepted_after += usize::from(accepted && !met.is_empty());
         self.written.extend(met);
+        Ok(answer)
+    }
+
+    /// Takes a message after the same in other forms, if it is a composition.
+    fn take_after_other_forms(&mut self, message: &[u8]) -> Outcome<u64> {
+        let lent = other_forms::lend(&mut self.ends, message, &mut self.random)?;
+        let answer = self.ends.take(message)?;
+        let accepted = answer == 0 || answer >= ACCEPTED;
+        self.ends.counts.accepted_after_forms += usize::from(accepted && lent > 0);
         Ok(answer)
     }
 
@@ -399,7 +413,7 @@ impl<'a> Session<'a> {
             session: (self.case.session % (1 << 24)) as u32,
             body: Body::OpeningQuery,
         };
-        let query = outstanding(&receiver).unwrap_or(opening);
+        let query = outstanding(&receiver).filter(has_place).unwrap_or(opening);
         let (settings, width) = held(&sender.state_bytes);
         let mut buffer = vec![0; MOST];
         let answer = reply(
@@ -483,6 +497,15 @@ impl Saved {
             state: None,
             before_opening: query == Some(Body::OpeningQuery),
         }
+    }
+}
+
+/// Whether the query's level has a place in a word: an altered state may hold levels that have none, and then no
+/// call writes it.
+fn has_place(query: &Message) -> bool {
+    match query.body {
+        Body::NodeQuery { level, .. } => level < 1 << 28,
+        _ => true,
     }
 }
 

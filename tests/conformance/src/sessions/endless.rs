@@ -81,7 +81,8 @@ fn forged_reply(
         true => Body::Composition {
             level,
             id,
-            number: 0,
+            // Equal children have one order.
+            number: None,
             references: vec![reference(0, 1)?, reference(ENDLESS, equal)?],
         },
         false => Body::Literal {

@@ -1,9 +1,12 @@
 //! Forged and damaged messages for a receiver.
 
+use super::named::named;
 use crate::messages::damage::{damaged, Damage};
+use crate::messages::numbers::{in_other_form, misplaced, MISPLACED};
 use crate::messages::order::in_any_disorder;
 use crate::messages::valid::{self, SMALL};
 use crate::random::Random;
+use reference::eulerian::trails_from;
 use reference::message::{encode, Body, Message, Opening};
 use reference::shingle::Shingle;
 use reference::sketch::sketch;
@@ -36,12 +39,15 @@ pub enum Forgery {
     OtherList,
     OwnTwice,
     /// A reply to a node's query: a none, a literal of any bytes, one of all bytes that are left, a
-    /// composition of another number, with other counts or references, of any references, or with
-    /// references that do not rise.
+    /// composition of another number, without its number or with one that it omits, with number words
+    /// twice or elsewhere, with other counts or references, of any references, or with references that do
+    /// not rise.
     None,
     Literal,
     Rest,
     Number,
+    OtherForm,
+    Misplaced,
     Counts,
     References,
     Composition,
@@ -68,11 +74,13 @@ const OF_OPENINGS: [Forgery; 7] = [
     Forgery::OtherList,
     Forgery::OwnTwice,
 ];
-const OF_NODES: [Forgery; 8] = [
+const OF_NODES: [Forgery; 10] = [
     Forgery::None,
     Forgery::Literal,
     Forgery::Rest,
     Forgery::Number,
+    Forgery::OtherForm,
+    Forgery::Misplaced,
     Forgery::Counts,
     Forgery::References,
     Forgery::Composition,
@@ -278,11 +286,16 @@ fn other_list(list: &[Shingle], random: &mut Random) -> Vec<Shingle> {
 fn node_message(kind: Forgery, genuine: Message, known: &Known, random: &mut Random) -> Vec<u8> {
     let body = node_reply(kind, &genuine.body, known, random);
     let whole = encode(&Message { body, ..genuine });
-    let disordered = match kind {
-        Forgery::Order => in_any_disorder(&whole, random),
+    let changed = match kind {
+        Forgery::Order => in_any_disorder(&whole, random).map(|(_, changed)| changed),
+        Forgery::OtherForm => in_other_form(&whole, random),
+        Forgery::Misplaced => {
+            let kind = random.one_of(&MISPLACED);
+            misplaced(&whole, kind, random)
+        }
         _ => None,
     };
-    disordered.map_or(whole, |(_, changed)| changed)
+    changed.unwrap_or(whole)
 }
 
 /// What such a reply says, its references in order or nearly always so.
@@ -324,8 +337,10 @@ fn node_reply(kind: Forgery, genuine: &Body, known: &Known, random: &mut Random)
         }
         (Forgery::Literal, _) => literal(level, id, known.rest.len(), random),
         (Forgery::Number, Body::Composition { number, .. }) => {
-            let next = *number + 1;
-            *number = random.one_of(&[0, next, number.saturating_sub(1), 4_095, 4_096, LARGEST]);
+            let held = number.unwrap_or(0);
+            let near = [held + 1, held.saturating_sub(1)];
+            let other = [0, near[0], near[1], 4_095, 4_096, LARGEST];
+            *number = Some(random.one_of(&other));
             body
         }
         (Forgery::Counts, Body::Composition { references, .. }) if !references.is_empty() => {
@@ -341,13 +356,15 @@ fn node_reply(kind: Forgery, genuine: &Body, known: &Known, random: &mut Random)
             let listed = shingle.map_or(1, |shingle| shingle.count.clamp(1, 31)) as u32;
             let any = random.between(1, 32) as u32;
             references[place].count = random.one_of(&[1, 32, listed, listed + 1, any]);
-            body
+            mostly_right_form(body, known.list, random)
         }
         (Forgery::References, Body::Composition { references, .. }) => {
             other_references(references, known.list, random);
+            mostly_right_form(body, known.list, random)
+        }
+        (Forgery::Order | Forgery::OtherForm | Forgery::Misplaced, Body::Composition { .. }) => {
             body
         }
-        (Forgery::Order, Body::Composition { .. }) => body,
         _ => composition(level, id, known.list, random),
     }
 }
@@ -381,6 +398,24 @@ fn mostly_rising(references: &mut Vec<Reference>, random: &mut Random) {
         references.sort_by_key(|reference| reference.index);
         references.dedup_by_key(|reference| reference.index);
     }
+}
+
+/// Without a number where the pairs that are named have one trail, and with one where they have several, in most
+/// cases, so that another condition alone may fail; else with the number that it has.
+fn mostly_right_form(mut body: Body, list: &[Shingle], random: &mut Random) -> Body {
+    if let Body::Composition {
+        number, references, ..
+    } = &mut body
+    {
+        let trails = named(references, list).map_or(0, |over| trails_from(0, &over));
+        match trails {
+            0 => {}
+            _ if random.percent(15) => {}
+            1 => *number = None,
+            _ => *number = Some(number.unwrap_or(0)),
+        }
+    }
+    body
 }
 
 /// One reference fewer or more, to another place of the list or past its end, or none.
@@ -417,11 +452,12 @@ fn composition(level: u32, id: u64, list: &[Shingle], random: &mut Random) -> Bo
         });
     }
     mostly_rising(&mut references, random);
-    let number = random.one_of(&[0, 0, 0, 1, 4_095, 4_096]);
-    Body::Composition {
+    let number = random.one_of(&[None, None, Some(0), Some(1), Some(4_095), Some(4_096)]);
+    let body = Body::Composition {
         level,
         id,
         number,
         references,
-    }
+    };
+    mostly_right_form(body, list, random)
 }

@@ -9,6 +9,7 @@ use crate::clock::timed;
 use crate::failure::Difference;
 use crate::lent::{for_reading, Lent};
 use crate::random::Random;
+use crate::replies::form::form;
 use crate::replies::setup::held;
 use reference::message::{parse, Body, Message};
 use reference::rcds::{self, ACCEPTED};
@@ -361,7 +362,13 @@ impl<'a> Lockstep<'a> {
                 counts.literals_above += usize::from(u64::from(level) < after.settings.levels);
                 counts.literals_empty += usize::from(bytes.is_empty());
             }
-            Some(Body::Composition { number, .. }) => counts.numbers += usize::from(number > 0),
+            Some(Body::Composition {
+                number, references, ..
+            }) => {
+                let list = self.receiver.memory.shingle_list();
+                let form = form(number, &references, &list);
+                *counts.forms.entry(form).or_default() += 1;
+            }
             _ => {}
         }
         if let Some(length) = answer.checked_sub(ACCEPTED) {

@@ -5,8 +5,10 @@ use super::cases::{case, Family, FAMILIES};
 use super::counts::{lendings, Call, Counts, ALONE, CALLS};
 use super::course;
 use super::forged::forgeries;
+use super::other_forms::other_forms;
 use crate::failure::Failure;
 use crate::messages::order::DISORDERS;
+use crate::replies::form::FORMS;
 use crate::two_threads::in_order;
 use reference::rcds::ACCEPTED;
 use std::collections::BTreeMap;
@@ -65,8 +67,8 @@ impl Report {
             ("handed over by an opening", counts.by_opening),
             ("literal above the last level", counts.literals_above),
             ("empty literal", counts.literals_empty),
-            ("trail number above 0", counts.numbers),
             ("accepted after one not rising", counts.accepted_after),
+            ("accepted after other forms", counts.accepted_after_forms),
         ];
         for (what, count) in some {
             assert!(count > 0, "{what}: none");
@@ -80,8 +82,8 @@ impl Report {
     }
 }
 
-/// That every condition refused a message alone, that references came in every disorder, and that pieces
-/// were lent in every way.
+/// That every condition refused a message alone, that references came in every disorder and compositions in
+/// every form, and that pieces were lent in every way.
 fn assert_kinds(counts: &Counts) {
     for alone in ALONE {
         assert!(counts.alone.contains_key(&alone), "{alone:?} alone: none");
@@ -89,6 +91,14 @@ fn assert_kinds(counts: &Counts) {
     for disorder in DISORDERS {
         let met = counts.not_rising.contains_key(&disorder);
         assert!(met, "{disorder:?} met by 10: none");
+    }
+    for form in FORMS {
+        let accepted = counts.forms.contains_key(&form);
+        assert!(accepted, "{form:?} accepted: none");
+    }
+    for form in other_forms() {
+        let lent = counts.other_forms.contains_key(&form);
+        assert!(lent, "{form:?}: none");
     }
     for call in CALLS {
         for &lending in lendings(call) {
@@ -107,7 +117,7 @@ impl fmt::Display for Report {
             .map(|(family, [sessions, handed])| format!("{family:?} {sessions} and {handed}"));
         write!(
             f,
-            "{} sessions, {calls} calls; handed over {} strings ({} the sender's, {} by the opening alone, the longest of {} bytes); at most {} replies accepted and {} nodes pending; accepted types {}; literals above the last level {}, empty {}, compositions of a number above 0 {}; taken over altered memory {} and altered states {}; refused by one condition alone: {}; compositions not rising, met by 10 at every call: {}, and accepted right after {}; pieces lent as null and in one memory: {}; sessions and hand-overs of each family: {}; forged messages, accepted and refused: {}",
+            "{} sessions, {calls} calls; handed over {} strings ({} the sender's, {} by the opening alone, the longest of {} bytes); at most {} replies accepted and {} nodes pending; accepted types {}; literals above the last level {}, empty {}; compositions: {}; taken over altered memory {} and altered states {}; refused by one condition alone: {}; compositions not rising, met by 10 at every call: {}, and accepted right after {}; in other forms: {}, and accepted right after {}; pieces lent as null and in one memory: {}; sessions and hand-overs of each family: {}; forged messages, accepted and refused: {}",
             self.sessions,
             counts.of(Call::Take, ACCEPTED),
             counts.senders_string,
@@ -118,12 +128,14 @@ impl fmt::Display for Report {
             list(&counts.accepted),
             counts.literals_above,
             counts.literals_empty,
-            counts.numbers,
+            each(&counts.forms),
             counts.altered_memory,
             counts.altered_states,
             each(&counts.alone),
             each(&counts.not_rising),
             counts.accepted_after,
+            each(&counts.other_forms),
+            counts.accepted_after_forms,
             lent(counts),
             families.collect::<Vec<_>>().join(", "),
             forged(counts),

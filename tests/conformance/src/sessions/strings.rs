@@ -3,7 +3,9 @@
 use crate::content::{self, Content, KINDS};
 use crate::random::Random;
 use reference::settings::Settings;
-use reference::tree::tree;
+use reference::shingle::children;
+use reference::trail::is_only_trail;
+use reference::tree::{tree, Node};
 
 /// How the two strings differ.
 #[derive(Clone, Copy, Debug, PartialEq, Eq, PartialOrd, Ord)]
@@ -82,6 +84,35 @@ pub fn many_trails(random: &mut Random) -> Settings {
         levels,
         nominal: random.between(least, 2 * least),
     }
+}
+
+/// How often a string is drawn again until it has a node with several trails.
+const DRAWS: usize = 20;
+
+/// A string of this content and length that has such a node, if one comes in so many draws.
+pub fn with_several_trails(
+    settings: &Settings,
+    content: Content,
+    length: usize,
+    random: &mut Random,
+) -> Vec<u8> {
+    let mut string = content::string(content, length, random);
+    for _ in 0..DRAWS {
+        if has_several_trails(&tree(settings, &string)) {
+            break;
+        }
+        string = content::string(content, length, random);
+    }
+    string
+}
+
+/// Whether the children of some node of a tree have another order.
+fn has_several_trails(nodes: &[Node]) -> bool {
+    let several = |k: usize| {
+        let ids: Vec<u64> = children(nodes, k).iter().map(|child| child.id).collect();
+        !ids.is_empty() && !is_only_trail(&ids)
+    };
+    (0..nodes.len()).any(several)
 }
 
 /// Two strings of about this length, the sender's first, each within 65,536 bytes.

@@ -24,12 +24,12 @@ pub fn positive_own_alone(before: &Receiver, memory: &Memory, opening: &Opening)
     openings::positive_own_alone(&takings, &memory.shingle_list())
 }
 
-/// 17: not "their sum k from 1 to 32", since it is larger. Asked only of the number 0, whose trail exists if
-/// there is any.
+/// 17: not "their sum k from 1 to 32", since it is larger. Asked only of equal children without a number: where
+/// they have a trail it is the only one.
 pub fn sum_alone(before: &Receiver, list: &[Shingle], body: &Body) -> bool {
     let (
         Body::Composition {
-            number: 0,
+            number: None,
             references,
             ..
         },
@@ -51,7 +51,8 @@ pub fn sum_alone(before: &Receiver, list: &[Shingle], body: &Body) -> bool {
     let sum: u64 = pairs.values().sum();
     let pending = before.pile.len() as u64 - 1 + sum;
     let fits = pending <= MOST_PENDING as u64 && top.level < before.settings.levels;
-    sum > 32 && fits && has_trail(&pairs)
+    let children: BTreeSet<u64> = pairs.keys().map(|pair| pair.1).collect();
+    sum > 32 && fits && children.len() == 1 && has_trail(&pairs)
 }
 
 /// Whether there is a sequence "whose pairs, starting from 0, are exactly" these: every pair can be reached

@@ -67,6 +67,8 @@ pub enum Family {
     OrderAtTheLimit,
     /// Any order of few ids, most with a number far above 4,095.
     OrderOfFewIds,
+    /// An order with repeated ids whose trail is the only one, or one of two.
+    OrderOfOneOrTwo,
     /// No ids, more than 32, one that is 0, or bytes that are no whole ids.
     NoOrder,
     /// Every multiset of the pairs of 0 and two ids, each at most twice.
@@ -91,18 +93,21 @@ pub enum Family {
     MultisetOfAnyNumber,
     /// A number around 4,095, or around the number of trails.
     MultisetAtTheLimit,
+    /// The pairs of an order with repeated ids whose trail is the only one, or one of two; number 0, 1 or 2.
+    MultisetOfOneOrTwo,
 }
 
 /// How many orders of up to 6 ids there are, each of three.
 const EVERY_ORDER: usize = 3 + 9 + 27 + 81 + 243 + 729;
 
 /// The families, and how many cases each has.
-const FAMILIES: [(Family, usize); 17] = [
+const FAMILIES: [(Family, usize); 19] = [
     (Family::EveryOrder, 2 * EVERY_ORDER),
     (Family::Order, 36_000),
     (Family::OrderOfAnyNumber, 200),
     (Family::OrderAtTheLimit, 80),
     (Family::OrderOfFewIds, 50),
+    (Family::OrderOfOneOrTwo, 4_000),
     (Family::NoOrder, 8_000),
     (Family::EveryMultiset, 3 * 3 * 3 * 3 * 3 * 3 * 3 * 3 * 3),
     (Family::Multiset, 22_000),
@@ -115,6 +120,7 @@ const FAMILIES: [(Family, usize); 17] = [
     (Family::LargeNumbers, 1_500),
     (Family::MultisetOfAnyNumber, 200),
     (Family::MultisetAtTheLimit, 90),
+    (Family::MultisetOfOneOrTwo, 4_000),
 ];
 
 /// Trails of the cases that have few.
@@ -162,6 +168,7 @@ fn lent(family: Family, place: usize, random: &mut Random) -> Lent {
             let (length, few) = (random.between(10, 32), random.between(2, 6));
             bytes(&of_few_ids(length as usize, few as usize, random))
         }
+        Family::OrderOfOneOrTwo => bytes(&with_so_many_trails(1 + place as u128 % 2, random)),
         Family::NoOrder => no_order(random),
         _ => return lent_multiset(family, place, random),
     };
@@ -251,6 +258,11 @@ fn lent_multiset(family: Family, place: usize, random: &mut Random) -> Lent {
         Family::MultisetOfAnyNumber => {
             let number = random.by_size(0, 4_095);
             let order = with_many_trails(u128::from(number), random);
+            (entries(&multiset(&pairs(&order)), random), number)
+        }
+        Family::MultisetOfOneOrTwo => {
+            let order = with_so_many_trails(1 + place as u128 % 2, random);
+            let number = random.one_of(&[0, 0, 0, 1, 1, 2]);
             (entries(&multiset(&pairs(&order)), random), number)
         }
         _ => at_the_limit(place, random),

@@ -2,11 +2,12 @@
 //! where it was accepted, the other one with what it answered.
 
 use super::cases::{Case, Lent as LentCase};
+use super::which::{which, Which};
 use crate::clock::timed;
 use crate::failure::{Difference, Failure};
 use crate::lent::Lent;
 use crate::random::Random;
-use reference::rcds::{rcds_trail_number, rcds_trail_order, ACCEPTED};
+use reference::rcds::{count, rcds_trail_number, rcds_trail_order, says_only, ACCEPTED};
 use reference::trail::{pairs, MOST_NUMBER};
 
 /// `rcds_trail_number` as C declares it.
@@ -22,18 +23,21 @@ pub struct Calls {
     pub order: TrailOrder,
 }
 
-/// What a case came to: the answers of its calls. The second is the way back.
+/// What a case came to: the answers of its calls, and which trail an accepted one is about. The second
+/// answer is the way back.
 #[derive(Debug)]
 pub enum Done {
     Number {
         ids: usize,
         answer: u64,
+        which: Option<Which>,
         back: Option<u64>,
     },
     Order {
         number: u64,
         has_id_0: bool,
         answer: u64,
+        which: Option<Which>,
         back: Option<u64>,
     },
 }
@@ -56,17 +60,19 @@ pub fn compare(case: &Case, calls: Calls) -> Result<Done, Failure> {
         LentCase::Order { ids } => {
             let answer = call_number(ids, calls.number, random).map_err(in_number)?;
             let mut back = None;
-            if answer >= ACCEPTED && answer - ACCEPTED <= MOST_NUMBER {
-                let number = answer - ACCEPTED;
+            if answer >= ACCEPTED && count(answer) <= MOST_NUMBER {
                 let table = table_of_order(ids);
-                let (answer, order) =
-                    call_order(&table, number, ids.len(), calls.order, random).map_err(in_order)?;
+                let (other, order) =
+                    call_order(&table, count(answer), ids.len(), calls.order, random)
+                        .map_err(in_order)?;
                 assert!(order == *ids, "the reference's way back: {case}");
-                back = Some(answer);
+                assert!(says_only(answer) == says_only(other), "both ways: {case}");
+                back = Some(other);
             }
             Ok(Done::Number {
                 ids: ids.len() / 8,
                 answer,
+                which: (answer >= ACCEPTED).then(|| which(&rows(ids))),
                 back,
             })
         }
@@ -80,29 +86,35 @@ pub fn compare(case: &Case, calls: Calls) -> Result<Done, Failure> {
             let has_id_0 = ids.chunks(8).any(|id| id == [0; 8]);
             let mut back = None;
             if answer >= ACCEPTED && !has_id_0 {
-                let answer = call_number(&ids, calls.number, random).map_err(in_number)?;
+                let other = call_number(&ids, calls.number, random).map_err(in_number)?;
                 assert!(
-                    answer == ACCEPTED + number,
+                    other >= ACCEPTED && count(other) == *number,
                     "the reference's way back: {case}"
                 );
-                back = Some(answer);
+                assert!(says_only(answer) == says_only(other), "both ways: {case}");
+                back = Some(other);
             }
             Ok(Done::Order {
                 number: *number,
                 has_id_0,
                 answer,
+                which: (answer >= ACCEPTED).then(|| which(&rows(&ids))),
                 back,
             })
         }
     }
 }
 
+/// The ids that bytes are.
+fn rows(ids: &[u8]) -> Vec<u64> {
+    let id = |bytes: &[u8]| u64::from_be_bytes(bytes.try_into().expect("an id has 8 bytes"));
+    ids.chunks(8).map(id).collect()
+}
+
 /// The pairs of an order, one entry for each id.
 fn table_of_order(ids: &[u8]) -> Vec<u8> {
-    let id = |bytes: &[u8]| u64::from_be_bytes(bytes.try_into().expect("an id has 8 bytes"));
-    let ids: Vec<u64> = ids.chunks(8).map(id).collect();
     let entry = |(previous, own): (u64, u64)| [previous, own, 1];
-    let rows = pairs(&ids).into_iter().flat_map(entry);
+    let rows = pairs(&rows(ids)).into_iter().flat_map(entry);
     rows.flat_map(|row| row.to_be_bytes()).collect()
 }
 
@@ -151,7 +163,10 @@ fn call_order(
     }
     lent_ids.expect(&ids)?;
     lent_pairs.expect_unchanged()?;
-    let written = expected.saturating_sub(ACCEPTED) as usize;
+    let written = match expected < ACCEPTED {
+        true => 0,
+        false => count(expected) as usize,
+    };
     ids.truncate(8 * written);
     Ok((given, ids))
 }

@@ -64,6 +64,27 @@ const BEFORE_THE_IDS: u8 = 64;
 const ANSWERS_BYTES: u8 = 65;
 const REFUSED_BY_10: u8 = 66;
 
+// Of both calls: whether the trail is the only one.
+const ONLY_NEVER_SAID: u8 = 80;
+const ONLY_ALWAYS_SAID: u8 = 81;
+const ONLY_AT_NUMBER_0: u8 = 82;
+const ONLY_AT_THE_LAST_NUMBER: u8 = 83;
+const ONLY_OF_DIFFERENT_IDS: u8 = 84;
+const ONLY_OF_DIFFERENT_PAIRS: u8 = 85;
+const ONLY_WITHOUT_A_CHOICE: u8 = 86;
+const ONLY_BY_THE_FIRST_CHOICE: u8 = 87;
+const ONLY_OF_PAIRS_TOLD_APART: u8 = 88;
+const ONLY_OF_ONE_ID_NOT_SAID: u8 = 89;
+const ONLY_OF_32_IDS_NOT_SAID: u8 = 90;
+const ONLY_OF_TWO_TRAILS: u8 = 91;
+const ONLY_TURNED_ROUND: u8 = 92;
+const ONLY_IN_BIT_34: u8 = 93;
+const ONLY_IN_BIT_31: u8 = 94;
+const ONLY_FOR_ACCEPTED: u8 = 95;
+const ONLY_AT_17: u8 = 96;
+const ONLY_AT_20: u8 = 97;
+const ONLY_AT_4096: u8 = 98;
+
 /// A pair in a search: its ids, their places in the list of all ids, how many are unused.
 struct Pair {
     previous: u64,
@@ -204,6 +225,101 @@ fn is_balanced(entries: &[[u64; 3]]) -> bool {
         .all(|entry| left(entry[0]) <= entered(entry[0]))
 }
 
+/// Whether a trail of this number exists, whatever else is wrong.
+fn exists(entries: &[[u64; 3]], number: u64) -> bool {
+    let k = entries.iter().map(|entry| entry[2]).sum();
+    is_balanced(entries) && Search::new(NONE, entries, number).walk(0, k)
+}
+
+/// Whether at the first id after which several may come one alone leads to a trail. What comes later is not
+/// looked at.
+fn one_at_the_first_choice(entries: &[[u64; 3]]) -> bool {
+    let mut search = Search::new(NONE, entries, 0);
+    let mut from = 0;
+    loop {
+        let next = |pair: &Pair| pair.previous == from && pair.unused > 0;
+        let places: Vec<usize> = (0..search.pairs.len())
+            .filter(|&k| next(&search.pairs[k]))
+            .collect();
+        match places.as_slice() {
+            [] => return true,
+            [one] => {
+                search.pairs[*one].unused -= 1;
+                from = search.pairs[*one].own;
+            }
+            _ => return places.iter().filter(|&&k| leads_on(&search, k)).count() == 1,
+        }
+    }
+}
+
+/// Whether a trail goes on over this pair.
+fn leads_on(search: &Search, place: usize) -> bool {
+    let own = search.pairs[place].own;
+    let left = |k: usize, pair: &Pair| pair.unused - u64::from(k == place);
+    let rest = search.pairs.iter().enumerate();
+    let rest: Vec<[u64; 3]> = rest
+        .map(|(k, pair)| [pair.previous, pair.own, left(k, pair)])
+        .filter(|entry| entry[2] > 0)
+        .collect();
+    let k = rest.iter().map(|entry| entry[2]).sum();
+    Search::new(NONE, &rest, 0).walk(own, k)
+}
+
+/// Whether the trail of this number is said to be the only one over entries whose counts are not 0.
+fn only(fault: u8, entries: &[[u64; 3]], number: u64) -> bool {
+    let second = || exists(entries, 1);
+    let k: u64 = entries.iter().map(|entry| entry[2]).sum();
+    let twice = |ids: Vec<[u64; 2]>| {
+        ids.iter()
+            .any(|a| ids.iter().filter(|b| *b == a).count() > 1)
+    };
+    let each = || {
+        entries
+            .iter()
+            .flat_map(|e| vec![[e[0], e[1]]; e[2] as usize])
+    };
+    match fault {
+        ONLY_NEVER_SAID => false,
+        ONLY_ALWAYS_SAID => true,
+        ONLY_AT_NUMBER_0 => number == 0,
+        ONLY_AT_THE_LAST_NUMBER => !exists(entries, number + 1),
+        ONLY_OF_DIFFERENT_IDS => !twice(each().map(|[_, own]| [own, 0]).collect()),
+        ONLY_OF_DIFFERENT_PAIRS => !second() && !twice(each().collect()),
+        ONLY_WITHOUT_A_CHOICE => {
+            let mut pairs: Vec<[u64; 2]> = each().collect();
+            pairs.sort();
+            pairs.dedup();
+            !twice(pairs.iter().map(|&[previous, _]| [previous, 0]).collect())
+        }
+        ONLY_BY_THE_FIRST_CHOICE => one_at_the_first_choice(entries),
+        ONLY_OF_PAIRS_TOLD_APART => {
+            let apart: Vec<[u64; 3]> = each().map(|[previous, own]| [previous, own, 1]).collect();
+            !Search::new(EQUAL_PAIRS_TOLD_APART, &apart, 1).walk(0, k)
+        }
+        ONLY_OF_ONE_ID_NOT_SAID => k > 1 && !second(),
+        ONLY_OF_32_IDS_NOT_SAID => k < 32 && !second(),
+        ONLY_OF_TWO_TRAILS => !exists(entries, 2),
+        ONLY_TURNED_ROUND => second(),
+        _ => !second(),
+    }
+}
+
+/// The answer with what is said of being the only trail; a refused one stays as it is.
+fn with_only(fault: u8, answer: u64, only: bool) -> u64 {
+    let bit = match fault {
+        ONLY_IN_BIT_34 => 34,
+        ONLY_IN_BIT_31 => 31,
+        _ => 33,
+    };
+    match (fault, answer) {
+        (ONLY_AT_17, 17) | (ONLY_AT_20, 20) => answer + (1 << bit),
+        (_, ..=20) => answer,
+        (ONLY_FOR_ACCEPTED, _) if only => answer - (1 << 32) + (1 << bit),
+        _ if only => answer + (1 << bit),
+        _ => answer,
+    }
+}
+
 fn rows(fault: u8, bytes: &[u8]) -> Vec<u64> {
     let row = |bytes: &[u8]| {
         let bytes = bytes.try_into().expect("a row has 8 bytes");
@@ -263,7 +379,11 @@ fn answer_number(fault: u8, ids: &[u8]) -> u64 {
             }
         }
     }
-    (1 << 32) + number
+    let only = match (fault, number) {
+        (ONLY_AT_4096, 4_096) => true,
+        _ => only(fault, &pairs, number),
+    };
+    with_only(fault, (1 << 32) + number, only)
 }
 
 /// `rcds_trail_order` with one fault: the answer, and the ids that are written.
@@ -341,8 +461,14 @@ fn answer_order(fault: u8, pairs: &[u8], number: u64, room: usize) -> (u64, Vec<
     match (found, fits) {
         (false, _) => (17, vec![]),
         (true, false) => (20, search.ids),
-        (true, true) if fault == ANSWERS_BYTES => ((1 << 32) + 8 * k, search.ids),
-        (true, true) => ((1 << 32) + k, search.ids),
+        (true, true) => {
+            let count = match fault {
+                ANSWERS_BYTES => 8 * k,
+                _ => k,
+            };
+            let only = only(fault, &entries, number);
+            (with_only(fault, (1 << 32) + count, only), search.ids)
+        }
     }
 }
 
@@ -350,7 +476,10 @@ fn answer_order(fault: u8, pairs: &[u8], number: u64, room: usize) -> (u64, Vec<
 unsafe extern "C" fn faulty_number<const FAULT: u8>(ids: *const u8, ids_len: usize) -> u64 {
     let answer = answer_number(FAULT, part(ids, ids_len));
     changed::<FAULT>(ids, ids_len);
-    answer
+    match answer {
+        17 => with_only(FAULT, 17, false),
+        answer => answer,
+    }
 }
 
 /// Changes a byte of the piece that was lent for reading, or one past it. Both stand in a vector
@@ -392,6 +521,7 @@ unsafe extern "C" fn faulty_order<const FAULT: u8>(
     changed::<FAULT>(pairs, pairs_len);
     match answer {
         17 if FAULT == REFUSED_BY_10 => 10,
+        17 | 20 => with_only(FAULT, answer, false),
         answer => answer,
     }
 }
@@ -433,7 +563,10 @@ fn every_fault_of_numbering_is_found() {
         SIGNED FALLING LOW_BYTE_FIRST HIGH_HALVES_ONLY PAIR_LEFT_UNUSED REACHED_IN_ONE_PASS
         EQUAL_PAIRS_TOLD_APART REFUSES_32_IDS TAKES_33_IDS PART_OF_A_ROW_DROPPED READ_PIECE_CHANGED
         PAST_THE_READ_PIECE COUNTS_ITSELF CAP_4095 CAP_4097 TAKES_NO_IDS TAKES_ID_0 LAST_ID_MAY_BE_0
-        ALWAYS_0
+        ALWAYS_0 ONLY_NEVER_SAID ONLY_ALWAYS_SAID ONLY_AT_NUMBER_0 ONLY_AT_THE_LAST_NUMBER
+        ONLY_OF_DIFFERENT_IDS ONLY_OF_DIFFERENT_PAIRS ONLY_WITHOUT_A_CHOICE ONLY_BY_THE_FIRST_CHOICE
+        ONLY_OF_PAIRS_TOLD_APART ONLY_OF_ONE_ID_NOT_SAID ONLY_OF_32_IDS_NOT_SAID ONLY_OF_TWO_TRAILS
+        ONLY_TURNED_ROUND ONLY_IN_BIT_34 ONLY_IN_BIT_31 ONLY_FOR_ACCEPTED ONLY_AT_17 ONLY_AT_4096
     };
     for (name, number) in functions {
         let order = faulty_order::<NONE>;
@@ -452,7 +585,11 @@ fn every_fault_of_ordering_is_found() {
         COUNTS_32_BITS COUNTS_8_BITS LAST_ENTRY_OF_EQUAL_PAIRS REFUSES_ID_0 ENDS_AT_ID_0
         REFUSES_32_ENTRIES TAKES_33_ENTRIES ROOM_BEFORE_TRAIL ROOM_FOR_32 ROOM_ONE_BYTE_MORE
         ROOM_NOT_ASKED WRITES_AT_20 WRITES_AT_17 REST_CLEARED PAST_THE_IDS BEFORE_THE_IDS
-        ANSWERS_BYTES REFUSED_BY_10
+        ANSWERS_BYTES REFUSED_BY_10 ONLY_NEVER_SAID ONLY_ALWAYS_SAID ONLY_AT_NUMBER_0
+        ONLY_AT_THE_LAST_NUMBER ONLY_OF_DIFFERENT_IDS ONLY_OF_DIFFERENT_PAIRS ONLY_WITHOUT_A_CHOICE
+        ONLY_BY_THE_FIRST_CHOICE ONLY_OF_PAIRS_TOLD_APART ONLY_OF_ONE_ID_NOT_SAID
+        ONLY_OF_32_IDS_NOT_SAID ONLY_OF_TWO_TRAILS ONLY_TURNED_ROUND ONLY_IN_BIT_34 ONLY_IN_BIT_31
+        ONLY_FOR_ACCEPTED ONLY_AT_17 ONLY_AT_20
     };
     for (name, order) in functions {
         let number = faulty_number::<NONE>;

@@ -1,10 +1,12 @@
-//! `rcds_trail_number` and `rcds_trail_order`: the number of an order, and the order of a number.
+//! `rcds_trail_number` and `rcds_trail_order`: the number of an order, and the order of a number; and of both,
+//! whether the trail is the only one.
 
 mod cases;
 mod compare;
 pub mod orders;
 mod report;
 mod stranded;
+mod which;
 
 #[cfg(test)]
 mod faults;

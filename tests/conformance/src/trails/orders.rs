@@ -77,6 +77,22 @@ pub fn with_few_trails(most: u128, random: &mut Random) -> Vec<u64> {
     }
 }
 
+/// An order of 2 to 32 ids, some of them again, over whose pairs there are exactly so many trails.
+pub fn with_so_many_trails(count: u128, random: &mut Random) -> Vec<u64> {
+    loop {
+        let length = match random.between(0, 3) {
+            0 => 32,
+            1 => random.between(2, 8) as usize,
+            _ => random.between(2, 32) as usize,
+        };
+        let repeats = random.between(1, (length as u64 / 2).min(6)) as usize;
+        let order = with_repeats(length, repeats, random);
+        if trails(&order) == count {
+            return order;
+        }
+    }
+}
+
 /// An order of up to 32 ids over whose pairs there are more than so many trails.
 pub fn with_many_trails(least: u128, random: &mut Random) -> Vec<u64> {
     loop {

@@ -2,9 +2,10 @@
 
 use super::cases::{case, families, Family};
 use super::compare::{compare, Calls, Done};
+use super::which::{Which, ALL};
 use crate::failure::Failure;
 use crate::two_threads::in_order;
-use reference::rcds::ACCEPTED;
+use reference::rcds::{count, says_only, ACCEPTED};
 use std::collections::{BTreeMap, BTreeSet};
 use std::fmt;
 
@@ -30,6 +31,7 @@ pub struct NumberReport {
     lengths: BTreeSet<usize>,
     /// Those whose number gave the order again.
     back: usize,
+    only: OnlyReport,
 }
 
 /// Multisets that were ordered.
@@ -44,6 +46,52 @@ pub struct OrderReport {
     lengths: BTreeSet<u64>,
     /// Those whose order gave the number again.
     back: usize,
+    only: OnlyReport,
+}
+
+/// What was said of being the only trail.
+#[derive(Default)]
+struct OnlyReport {
+    /// The trails that the answers were about.
+    which: BTreeMap<Which, usize>,
+    /// The lengths of those of which it was said, and of those of which it was not.
+    said: BTreeSet<u64>,
+    not_said: BTreeSet<u64>,
+}
+
+impl OnlyReport {
+    fn add(&mut self, length: u64, answer: u64, which: Option<Which>) {
+        if let Some(which) = which {
+            *self.which.entry(which).or_default() += 1;
+        }
+        match says_only(answer) {
+            true => self.said.insert(length),
+            false => self.not_said.insert(length),
+        };
+    }
+
+    /// That each of the trails came, and that it was said and not said of every length that allows it: fewer
+    /// than four ids have no other order, unless one of them is 0.
+    fn assert_complete(&self, call: &str) {
+        for which in ALL {
+            assert!(self.which.contains_key(&which), "{call}: no {which:?}");
+        }
+        for length in 1..=32 {
+            assert!(self.said.contains(&length), "{call}: none of {length} said");
+            let others = length < 4 || self.not_said.contains(&length);
+            assert!(others, "{call}: no others of {length}");
+        }
+    }
+}
+
+impl fmt::Display for OnlyReport {
+    fn fmt(&self, f: &mut fmt::Formatter) -> fmt::Result {
+        let which = self.which.iter();
+        let which: Vec<String> = which
+            .map(|(which, count)| format!("{which:?} {count}"))
+            .collect();
+        write!(f, "{}", which.join(", "))
+    }
 }
 
 /// Runs the first cases, so many of them, up to the first that differs.
@@ -60,17 +108,24 @@ pub fn run(seed: u64, cases: usize, calls: Calls) -> Result<Report, Failure> {
 impl Report {
     fn add(&mut self, family: Family, done: &Done) {
         let answer = match *done {
-            Done::Number { ids, answer, back } => {
-                self.number.add(ids, answer, back);
+            Done::Number {
+                ids,
+                answer,
+                which,
+                back,
+            } => {
+                self.number.add(ids, answer, which, back);
                 answer
             }
             Done::Order {
                 number,
                 has_id_0,
                 answer,
+                which,
                 back,
             } => {
-                self.order.add(number, has_id_0, answer, back);
+                self.order.add(number, answer, which, back);
+                self.order.with_id_0 += usize::from(has_id_0);
                 answer
             }
         };
@@ -94,6 +149,8 @@ impl Report {
         assert!(self.order.by_20 > 0, "20 refused no multiset");
         let lengths = &self.order.lengths;
         assert_eq!(lengths.len(), 32, "orders of some length are missing");
+        self.number.only.assert_complete("rcds_trail_number");
+        self.order.only.assert_complete("rcds_trail_order");
         for family in families() {
             let [accepted, refused] = self.families[&family];
             let (may_be_accepted, may_be_refused) = match family {
@@ -102,7 +159,8 @@ impl Report {
                 | Family::Order
                 | Family::OrderOfAnyNumber
                 | Family::OrderAtTheLimit
-                | Family::OrderOfFewIds => (true, false),
+                | Family::OrderOfFewIds
+                | Family::OrderOfOneOrTwo => (true, false),
                 _ => (true, true),
             };
             let name = format!("{family:?}");
@@ -113,7 +171,7 @@ impl Report {
 }
 
 impl NumberReport {
-    fn add(&mut self, ids: usize, answer: u64, back: Option<u64>) {
+    fn add(&mut self, ids: usize, answer: u64, which: Option<Which>, back: Option<u64>) {
         self.orders += 1;
         self.back += usize::from(back.is_some());
         if answer < ACCEPTED {
@@ -121,7 +179,8 @@ impl NumberReport {
             return;
         }
         self.lengths.insert(ids);
-        match answer - ACCEPTED {
+        self.only.add(ids as u64, answer, which);
+        match count(answer) {
             0 => self.number_0 += 1,
             4_095 => self.number_4095 += 1,
             4_096 => self.number_4096 += 1,
@@ -131,7 +190,7 @@ impl NumberReport {
 }
 
 impl OrderReport {
-    fn add(&mut self, number: u64, has_id_0: bool, answer: u64, back: Option<u64>) {
+    fn add(&mut self, number: u64, answer: u64, which: Option<Which>, back: Option<u64>) {
         self.multisets += 1;
         self.back += usize::from(back.is_some());
         match answer {
@@ -140,8 +199,8 @@ impl OrderReport {
             _ => {
                 self.accepted += 1;
                 self.number_4095 += usize::from(number == 4_095);
-                self.with_id_0 += usize::from(has_id_0);
-                self.lengths.insert(answer - ACCEPTED);
+                self.lengths.insert(count(answer));
+                self.only.add(count(answer), answer, which);
             }
         }
     }
@@ -151,7 +210,7 @@ impl fmt::Display for NumberReport {
     fn fmt(&self, f: &mut fmt::Formatter) -> fmt::Result {
         write!(
             f,
-            "{} orders as the reference has them: number 0 {}, 1 to 4,094 {}, 4,095 {}, 4,096 {}; refused by 17 {}; {} numbers gave the order again",
+            "{} orders as the reference has them: number 0 {}, 1 to 4,094 {}, 4,095 {}, 4,096 {}; refused by 17 {}; {} numbers gave the order again; trails: {}",
             self.orders,
             self.number_0,
             self.between,
@@ -159,6 +218,7 @@ impl fmt::Display for NumberReport {
             self.number_4096,
             self.refused,
             self.back,
+            self.only,
         )
     }
 }
@@ -167,7 +227,7 @@ impl fmt::Display for OrderReport {
     fn fmt(&self, f: &mut fmt::Formatter) -> fmt::Result {
         write!(
             f,
-            "{} multisets as the reference has them: accepted {} ({} of number 4,095, {} with id 0); refused by 17 {}, by 20 {}; {} orders gave the number again",
+            "{} multisets as the reference has them: accepted {} ({} of number 4,095, {} with id 0); refused by 17 {}, by 20 {}; {} orders gave the number again; trails: {}",
             self.multisets,
             self.accepted,
             self.number_4095,
@@ -175,6 +235,7 @@ impl fmt::Display for OrderReport {
             self.by_17,
             self.by_20,
             self.back,
+            self.only,
         )
     }
 }

@@ -68,16 +68,27 @@ fn literals() {
 
 fn compositions() {
     let mut buffer = [170u8; 64];
-    let ten: Vec<(u32, u32)> = (1..=10).map(|index| (index, 1)).collect();
+    let first = |count: u32| -> Vec<(u32, u32)> { (1..=count).map(|index| (index, 1)).collect() };
+    let rising = vec![(0, 1), (1, 31), (7, 2), (12, 3), (4095, 32)];
+    let falling = vec![(4095, 32), (0, 1), (7, 2), (12, 3), (1, 31)];
+    let twice = vec![(3, 1), (3, 1)];
     // "References now rise by index" (document 02, request 2): the third's fall, and the fifth has an
-    // index twice.
-    let cases: [(u32, Vec<(u32, u32)>); 6] = [
-        (0, vec![(0, 1)]),
-        (4095, vec![(0, 1), (1, 31), (7, 2), (12, 3), (4095, 32)]),
-        (4095, vec![(4095, 32), (0, 1), (7, 2), (12, 3), (1, 31)]),
-        (4096, vec![]),
-        (1, vec![(3, 1), (3, 1)]),
-        (1, ten),
+    // index twice. The sixth has no room. The others omit the number (request 5), so that one more
+    // reference has room: the twelfth fills the buffer, and the last is longer.
+    let cases: [(Option<u32>, Vec<(u32, u32)>); 13] = [
+        (Some(0), vec![(0, 1)]),
+        (Some(4095), rising.clone()),
+        (Some(4095), falling.clone()),
+        (Some(4096), vec![]),
+        (Some(1), twice.clone()),
+        (Some(1), first(10)),
+        (None, vec![(0, 1)]),
+        (None, rising),
+        (None, falling),
+        (None, vec![]),
+        (None, twice),
+        (None, first(10)),
+        (None, first(11)),
     ];
     for (number, pairs) in cases {
         let references = pairs

@@ -10,17 +10,17 @@ use Rattle.composition.proofs.table.fill.Statement.{statement}
 use Rattle.composition.proofs.table.fill.Tie as tie
 
 abbrev Inv-loop : tie.InvT-loop
-Inv-loop shingles message level count size previous₀ own₀ counts₀ k₀ previous own counts k =
-    (size ≡ length (shinglesIn shingles)) × Filling (shinglesIn shingles) level message count k previous own counts
+Inv-loop shingles message at level count size previous₀ own₀ counts₀ k₀ previous own counts k =
+    (size ≡ length (shinglesIn shingles)) × Filling (shinglesIn shingles) level message at count k previous own counts
 
 abbrev μ-loop : tie.MeasureT-loop
-μ-loop shingles message level count size previous₀ own₀ counts₀ k₀ previous own counts k = count - k
+μ-loop shingles message at level count size previous₀ own₀ counts₀ k₀ previous own counts k = count - k
 
 size-requires : tie.Need-size-requires Inv-loop μ-loop
 size-requires c κs = search needs
 
 loop-holds : tie.Need-loop-holds Inv-loop μ-loop
-loop-holds c = (c .size .ensures, fill-start _ _ _ _)
+loop-holds c = (c .size .ensures, fill-start _ _ _ _ _)
 
 reference-at-requires : tie.Need-reference-at-requires Inv-loop μ-loop
 reference-at-requires c κs = search needs
@@ -31,7 +31,7 @@ look-up-requires c κs = search needs
 returns : tie.Need-returns Inv-loop μ-loop
 returns c =
     let turn = c .before .before .before .before in
-    fill-stop _ _ _ _ _ _ _ _ (turn .before .loop .inv .1) (turn .loop-test .taken) _ (c .before .before .before .reference-at .ensures) _
+    fill-stop _ _ _ _ _ _ _ _ _ (turn .before .loop .inv .1) (turn .loop-test .taken) _ (c .before .before .before .reference-at .ensures) _
     (c .before .before .look-up .ensures) _ refl (not-true _ (c .if1 .taken))
 
 mul-previous : tie.Need-mul-previous Inv-loop μ-loop
@@ -62,12 +62,12 @@ loop-again : tie.Need-loop-again Inv-loop μ-loop
 loop-again c =
     let turn = c .before .before .before .before in (
       turn .before .loop .inv .0,
-      fill-next _ _ _ _ _ _ _ _ (turn .before .loop .inv .1) (turn .loop-test .taken) _ (c .before .before .before .reference-at .ensures) _
+      fill-next _ _ _ _ _ _ _ _ _ (turn .before .loop .inv .1) (turn .loop-test .taken) _ (c .before .before .before .reference-at .ensures) _
           (c .before .before .look-up .ensures) (search needs) (not-false _ (c .if1 .left)),
     )
 
 returns-2 : tie.Need-returns-2 Inv-loop μ-loop
-returns-2 c = fill-end _ _ _ _ _ _ _ _ (c .before .loop .inv .1) (c .loop-test .left)
+returns-2 c = fill-end _ _ _ _ _ _ _ _ _ (c .before .loop .inv .1) (c .loop-test .left)
 
 pub fill-spec : {M : Type 1} → statement M
 fill-spec =

@@ -3,7 +3,7 @@ use mathlib.Core.Path.{_∙_, sym}
 use native.Mathlib.Omega.{arith}
 use borrow.Author.Tests.{not-true, not-false}
 use borrow.Author.Needs.{needs}
-use Rattle.message.proofs.Answers.{composition-no-pair, composition-no-number, composition-falls, composition-no-end, composition-read}
+use Rattle.message.proofs.Answers.{composition-no-pair, composition-falls, composition-no-end, composition-read}
 use Rattle.message.proofs.reader.composition.Statement.{statement}
 use Rattle.message.proofs.reader.composition.Tie as tie
 
@@ -16,20 +16,35 @@ returns c = composition-no-pair _ (c .before .before .before .args .session) (sy
 is-number-requires : tie.Need-is-number-requires
 is-number-requires c κs = search needs
 
-returns-2 : tie.Need-returns-2
-returns-2 c = composition-no-number _ (c .before .before .before .before .before .args .session) (sym (c .before .before .before .pair .ensures) ∙ not-false _ (c .before .before .if1 .left)) (sym (c .before .is-number .ensures) ∙ not-true _ (c .if2 .taken))
+references-from-requires : tie.Need-references-from-requires
+references-from-requires c κs = search needs
 
 reference-run-requires : tie.Need-reference-run-requires
 reference-run-requires c κs = search needs
 
-returns-3 : tie.Need-returns-3
-returns-3 c = composition-falls _ (c .before .before .before .before .before .before .before .before .args .session) (sym (c .before .before .before .before .before .before .pair .ensures) ∙ not-false _ (c .before .before .before .before .before .if1 .left)) (sym (c .before .before .before .before .is-number .ensures) ∙ not-false _ (c .before .before .before .if2 .left)) _ _ (c .before .before .reference-run .ensures) (not-true _ (c .if3 .taken))
+returns-2 : tie.Need-returns-2
+returns-2 c =
+    let run = c .before .before in
+    let from = run .before in
+    let number = from .before in
+    let level = number .before in
+    let start = level .before .before .before in
+    composition-falls _ (start .args .session) (sym (level .before .pair .ensures) ∙ not-false _ (level .if1 .left)) _ (number .is-number .ensures) _
+    (from .references-from .ensures) _ _ (run .reference-run .ensures) (not-true _ (c .if2 .taken))
 
 is-end-requires : tie.Need-is-end-requires
 is-end-requires c κs = search needs
 
-returns-4 : tie.Need-returns-4
-returns-4 c = composition-no-end _ (c .before .before .before .before .before .before .before .before .before .before .args .session) (sym (c .before .before .before .before .before .before .before .before .pair .ensures) ∙ not-false _ (c .before .before .before .before .before .before .before .if1 .left)) (sym (c .before .before .before .before .before .before .is-number .ensures) ∙ not-false _ (c .before .before .before .before .before .if2 .left)) _ _ (c .before .before .before .before .reference-run .ensures) (not-false _ (c .before .before .if3 .left)) (sym (c .before .is-end .ensures) ∙ not-true _ (c .if4 .taken))
+returns-3 : tie.Need-returns-3
+returns-3 c =
+    let run = c .before .before .before .before in
+    let from = run .before in
+    let number = from .before in
+    let level = number .before in
+    let start = level .before .before .before in
+    composition-no-end _ (start .args .session) (sym (level .before .pair .ensures) ∙ not-false _ (level .if1 .left)) _ (number .is-number .ensures) _
+    (from .references-from .ensures) _ _ (run .reference-run .ensures) (not-false _ (c .before .before .if2 .left))
+    (sym (c .before .is-end .ensures) ∙ not-true _ (c .if3 .taken))
 
 number-at-requires : tie.Need-number-at-requires
 number-at-requires c κs = search needs
@@ -41,10 +56,37 @@ number-at-requires-2 : tie.Need-number-at-requires-2
 number-at-requires-2 c κs = search needs
 
 sub-count : tie.Need-sub-count
-sub-count c = omega (arith, c .before .before .before .before .before .before .before .before .reference-run .ensures .count (not-false _ (c .before .before .before .before .before .before .if3 .left)))
+sub-count c =
+    let sound = c .before .before .before .before .before .before in
+    omega (arith, sound .before .before .reference-run .ensures .count (not-false _ (sound .if2 .left)))
 
-returns-5 : tie.Need-returns-5
-returns-5 c = composition-read _ (c .before .before .before .before .before .before .before .before .before .before .before .before .before .before .args .session) (sym (c .before .before .before .before .before .before .before .before .before .before .before .before .pair .ensures) ∙ not-false _ (c .before .before .before .before .before .before .before .before .before .before .before .if1 .left)) (sym (c .before .before .before .before .before .before .before .before .before .before .is-number .ensures) ∙ not-false _ (c .before .before .before .before .before .before .before .before .before .if2 .left)) _ _ (c .before .before .before .before .before .before .before .before .reference-run .ensures) _ _ _ (c .before .before .before .number-at .ensures) (c .before .before .value-at .ensures) (c .before .number-at2 .ensures) (not-false _ (c .before .before .before .before .before .before .if3 .left)) (sym (c .before .before .before .before .before .is-end .ensures) ∙ not-false _ (c .before .before .before .before .if4 .left))
+returns-4 : tie.Need-returns-4
+returns-4 c =
+    let ended = c .before .before .before .before in
+    let sound = ended .before .before in
+    let run = sound .before .before in
+    let from = run .before in
+    let number = from .before in
+    let level = number .before in
+    let start = level .before .before .before in
+    composition-read _ (start .args .session) (sym (level .before .pair .ensures) ∙ not-false _ (level .if1 .left)) _ (number .is-number .ensures) _
+    (from .references-from .ensures) _ _ (run .reference-run .ensures) _ _ _ (c .before .before .before .number-at .ensures) (c .before .before .value-at .ensures)
+    (c .before .number-at2 .ensures) (not-false _ (sound .if2 .left)) (sym (ended .before .is-end .ensures) ∙ not-false _ (ended .if3 .left))
 
 pub composition-spec : {M : Type 1} → statement M
-composition-spec = tie.close (tie.spec pair-requires returns is-number-requires returns-2 reference-run-requires returns-3 is-end-requires returns-4 number-at-requires value-at-requires number-at-requires-2 sub-count returns-5)
+composition-spec =
+    tie.close
+    (tie.spec
+    pair-requires
+    returns
+    is-number-requires
+    references-from-requires
+    reference-run-requires
+    returns-2
+    is-end-requires
+    returns-3
+    number-at-requires
+    value-at-requires
+    number-at-requires-2
+    sub-count
+    returns-4)

@@ -26,24 +26,27 @@ returns c =
     let sought = none .before in
     none-written _ _ _ _ _ _ _ _ (sought .before .find .ensures) (sym (sought .node-id .ensures) ∙ none .if1 .taken) (written .write-none .ensures)
 
-compose-requires : tie.Need-compose-requires
-compose-requires c κs =
-    let found = c .before in
-    there _ _ (λ z. found .if1 .left (found .before .node-id .ensures ∙ z))
+plan-node-requires : tie.Need-plan-node-requires
+plan-node-requires c κs = there _ _ (λ z. c .if1 .left (c .before .node-id .ensures ∙ z))
+
+write-references-requires : tie.Need-write-references-requires
+write-references-requires c κs = c .before .before .plan-node .ensures .writable (c .before .if2 .taken)
 
 same-length-2 : tie.Need-same-length-2
 same-length-2 c = search needs
 
 returns-2 : tie.Need-returns-2
 returns-2 c =
-    let composed = c .before .before .before in
+    let written = c .before .before in
+    let composed = written .before .before in
     let found = composed .before .before in
     let sought = found .before in
-    composition-written _ _ _ _ _ _ _ _ (sought .before .find .ensures) (λ z. found .if1 .left (sought .node-id .ensures ∙ z)) (composed .compose .ensures) (c .if2 .taken)
+    composition-written _ _ _ _ _ _ _ _ (sought .before .find .ensures) (λ z. found .if1 .left (sought .node-id .ensures ∙ z)) _
+    (composed .before .plan-node .ensures) (composed .if2 .taken) (written .write-references .ensures)
 
 write-bytes-requires : tie.Need-write-bytes-requires
 write-bytes-requires c κs =
-    let found = c .before .before .before .before .before .before in
+    let found = c .before .before .before in
     let sought = found .before in
     asked-inside _ _ _ _ _ (sought .before .find .ensures) (λ z. found .if1 .left (sought .node-id .ensures ∙ z))
 
@@ -53,12 +56,11 @@ same-length-3 c = search needs
 returns-3 : tie.Need-returns-3
 returns-3 c =
     let written = c .before .before in
-    let none = written .before .before in
-    let composed = none .before .before .before in
-    let found = composed .before .before in
+    let plain = written .before .before in
+    let found = plain .before .before in
     let sought = found .before in
-    literal-written _ _ _ _ _ _ _ _ (sought .before .find .ensures) (λ z. found .if1 .left (sought .node-id .ensures ∙ z)) (composed .compose .ensures) (none .if2 .left)
-    (written .write-bytes .ensures)
+    literal-written _ _ _ _ _ _ _ _ (sought .before .find .ensures) (λ z. found .if1 .left (sought .node-id .ensures ∙ z)) _
+    (plain .before .plan-node .ensures) (plain .if2 .left) (written .write-bytes .ensures)
 
 pub node-reply-spec : {M : Type 1} → statement M
 node-reply-spec =
@@ -69,7 +71,8 @@ node-reply-spec =
     write-none-requires
     same-length
     returns
-    compose-requires
+    plan-node-requires
+    write-references-requires
     same-length-2
     returns-2
     write-bytes-requires

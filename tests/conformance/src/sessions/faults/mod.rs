@@ -42,6 +42,8 @@ faults! {
     // 10, where references do not rise.
     FALLING_TAKEN DOUBLED_TAKEN FALLING_AFTER_11 FALLING_BY_17 FALLING_ENDED_AT_10 FALLING_ZEROED_AT_10
     FALLING_COUNTED FALLING_REPLIED_BY_11 FALLING_OF_TYPE_4
+    // 10, where a number stands twice or elsewhere.
+    MISPLACED_TAKEN MISPLACED_BY_17 MISPLACED_ENDED_AT_10 MISPLACED_REPLIED_BY_11 MISPLACED_OF_TYPE_4
     // An opening: 12 to 14, and the list that it leaves.
     FOURTEEN_FIRST FOURTEEN_EARLY THIRTEEN_AFTER_FOURTEEN NOMINAL_NOT_ASKED WINDOW_LOW_BYTE
     WIDTH_NOT_ASKED RULE_NOT_ASKED ONLY_THE_BUFFER_ASKED ONLY_THE_LIMIT_ASKED EXACT_OUTPUT_REFUSED
@@ -52,6 +54,11 @@ faults! {
     COUNTED_TWICE NONE_IS_EMPTY NONE_ONLY_REFUSED COMPOSED_AT_THE_LAST_LEVEL INDEX_FROM_1
     LIST_LEVEL_NOT_ASKED LIST_COUNT_NOT_ASKED COUNTS_OF_THE_LIST NUMBER_IGNORED NUMBER_LOW_12_BITS
     CHILDREN_TO_31 CHILDREN_TO_33 ONE_REFERENCE_ALONE
+    // 17, where a composition omits its number, or carries one.
+    OMITTED_TAKEN_AS_0 OMITTED_TAKEN_AS_THE_LAST OMITTED_REFUSED NUMBER_0_OF_ONE_TAKEN
+    ANY_NUMBER_OF_ONE_TAKEN EITHER_FORM_TAKEN CARRIED_0_REFUSED FORM_ASKED_OF_ONE_CHILD_ALONE
+    FORM_ASKED_OF_SEVERAL_REFERENCES_ALONE OTHER_FORM_BY_10 OTHER_FORM_BY_16 OTHER_FORM_NOT_ENDED
+    OTHER_FORM_NOT_ZEROED OTHER_FORM_COUNTED NO_TRAIL_OMITTED_BY_10
     // Children and copies.
     CHILDREN_TURNED_ROUND CHILDREN_PUSHED_TWICE CHILDREN_FEIGNED LEVEL_KEPT NODE_KEPT PILE_TO_127
     PILE_TO_125 NO_COPY_AFTER_LITERAL COPIES_ONCE COPIES_LOW_32_BITS COPIES_OF_THE_LEVEL
@@ -147,6 +154,7 @@ unsafe extern "C" fn reply<const FAULT: u8>(
         REPLY_OF_SESSION_0 if answer > 20 => out[1..4].fill(0),
         SENDER_STATE_CHANGED if state_len > 0 => *state.cast_mut() ^= 1,
         FALLING_REPLIED_BY_11 if answer == 10 && taking::falls(message) => return 11,
+        MISPLACED_REPLIED_BY_11 if answer == 10 && taking::is_misplaced(message) => return 11,
         _ => {}
     }
     answer
@@ -269,7 +277,9 @@ unsafe extern "C" fn take<const FAULT: u8>(
 
 unsafe extern "C" fn message_type<const FAULT: u8>(message: *const u8, message_len: usize) -> u64 {
     let message = part(message, message_len);
-    match FAULT == FALLING_OF_TYPE_4 && taking::falls(message) {
+    let taken = FAULT == FALLING_OF_TYPE_4 && taking::falls(message)
+        || FAULT == MISPLACED_OF_TYPE_4 && taking::is_misplaced(message);
+    match taken {
         true => receiver::ACCEPTED + 4,
         false => rcds::rcds_message_type(message),
     }

@@ -5,6 +5,7 @@ use super::receiver::{
     ROOT, ROWS, SIZE, TAKEN, WAITING, WIDTH,
 };
 use super::*;
+use crate::messages::numbers::put_in_place;
 use crate::messages::order::{each_once, put_in_order};
 use crate::openings::lists::cells_there;
 use reference::fnv::fnv1a;
@@ -77,11 +78,13 @@ pub fn take(
     }
 }
 
-/// The message, if it is well formed: the reference's reading, or one of references that do not rise.
+/// The message, if it is well formed: the reference's reading, or one of references that do not rise, or of
+/// numbers that stand twice or elsewhere.
 fn read(fault: u8, bytes: &[u8]) -> Option<Message> {
     match fault {
         FALLING_TAKEN | FALLING_AFTER_11 => parse(&put_in_order(bytes)),
         DOUBLED_TAKEN => parse(&each_once(bytes)),
+        MISPLACED_TAKEN => parse(&put_in_place(bytes)),
         _ => parse(bytes),
     }
 }
@@ -89,6 +92,11 @@ fn read(fault: u8, bytes: &[u8]) -> Option<Message> {
 /// Whether a message is a composition but for the order of its references.
 pub fn falls(bytes: &[u8]) -> bool {
     parse(bytes).is_none() && parse(&put_in_order(bytes)).is_some()
+}
+
+/// Whether a message is a composition but for where its number words stand.
+pub fn is_misplaced(bytes: &[u8]) -> bool {
+    parse(bytes).is_none() && parse(&put_in_place(bytes)).is_some()
 }
 
 /// A no at 10.
@@ -99,6 +107,9 @@ fn badly_formed(
     state: &mut [u8],
     output: &mut [u8],
 ) -> u64 {
+    if is_misplaced(bytes) {
+        return misplaced(fault, &rows, state, output);
+    }
     if !falls(bytes) {
         return 10;
     }
@@ -114,6 +125,20 @@ fn badly_formed(
     }
     match fault {
         FALLING_BY_17 => 17,
+        _ => 10,
+    }
+}
+
+/// A no at 10 of numbers that stand twice or elsewhere.
+fn misplaced(fault: u8, rows: &[u64], state: &mut [u8], output: &mut [u8]) -> u64 {
+    if matches!(fault, MISPLACED_BY_17 | MISPLACED_ENDED_AT_10) {
+        write_rows(&ended(fault, rows), state);
+    }
+    match fault {
+        MISPLACED_BY_17 => {
+            output.fill(0);
+            17
+        }
         _ => 10,
     }
 }
@@ -155,6 +180,11 @@ fn refuse(
     body: &Body,
     output: &mut [u8],
 ) -> u64 {
+    if question == 17 {
+        if let Some(answer) = other_form(fault, before, state, lent, body) {
+            return answer;
+        }
+    }
     let size = (before[SIZE] as usize).min(output.len());
     match fault {
         NEVER_ZEROES => {}
@@ -174,6 +204,45 @@ fn refuse(
         write_rows(&ended(fault, before), state);
     }
     question
+}
+
+/// What a composition is answered that has a number where it may not, or none where it must; nothing where the
+/// answer is that of every other no at 17.
+fn other_form(
+    fault: u8,
+    before: &[u64],
+    state: &mut [u8],
+    lent: &Lent,
+    body: &Body,
+) -> Option<u64> {
+    let Body::Composition {
+        number, references, ..
+    } = body
+    else {
+        return None;
+    };
+    let in_form = |number| children(NONE, before, lent, number, references).is_some();
+    if fault == NO_TRAIL_OMITTED_BY_10 && number.is_none() && !in_form(Some(0)) {
+        return Some(10);
+    }
+    let is_other = match number {
+        Some(_) => in_form(None),
+        None => in_form(Some(0)),
+    };
+    if !is_other {
+        return None;
+    }
+    let mut rows = before.to_vec();
+    match fault {
+        OTHER_FORM_BY_10 => return Some(10),
+        OTHER_FORM_NOT_ENDED => return Some(17),
+        OTHER_FORM_BY_16 => return Some(16),
+        OTHER_FORM_NOT_ZEROED => rows = ended(fault, before),
+        OTHER_FORM_COUNTED => rows[TAKEN] = rows[TAKEN].wrapping_add(1),
+        _ => return None,
+    }
+    write_rows(&rows, state);
+    Some(17)
 }
 
 /// What an accepted message leaves.
@@ -362,7 +431,7 @@ fn children(
     fault: u8,
     rows: &[u64],
     lent: &Lent,
-    number: u32,
+    number: Option<u32>,
     references: &[Reference],
 ) -> Option<Vec<u64>> {
     let level = rows[PLACES + 2 * (rows[WAITING] as usize - 1)];
@@ -388,11 +457,6 @@ fn children(
         };
         pairs.push(((shingle.previous, shingle.own), count));
     }
-    let number = match fault {
-        NUMBER_IGNORED => 0,
-        NUMBER_LOW_12_BITS => number % 4_096,
-        _ => number,
-    };
     let k: u64 = pairs.iter().map(|(_, count)| count).sum();
     if fault == CHILDREN_TO_31 && k > 31 || fault == ONE_REFERENCE_ALONE && references.len() > 1 {
         return None;
@@ -401,10 +465,39 @@ fn children(
     if fault == CHILDREN_TO_33 && k == 33 {
         let fewer = |&(pair, count): &((u64, u64), u64)| (pair, count - u64::from(count == 32));
         pairs = pairs.iter().map(fewer).collect();
-        let ids = order_of_number(&pairs, u64::from(number))?;
+        let ids = order(fault, &pairs, number)?;
         return Some([&ids[..1], &ids].concat());
     }
-    order_of_number(&pairs, u64::from(number))
+    order(fault, &pairs, number)
+}
+
+/// The order of the number that a composition carries where several exist, or of the only one.
+fn order(fault: u8, pairs: &[((u64, u64), u64)], number: Option<u32>) -> Option<Vec<u64>> {
+    let exists = |number: u64| order_of_number(pairs, number).is_some();
+    let k: u64 = pairs.iter().map(|(_, count)| count).sum();
+    let right = number.is_some() == exists(1);
+    let taken = match (fault, number) {
+        (OMITTED_TAKEN_AS_0 | OMITTED_TAKEN_AS_THE_LAST, None) => true,
+        (OMITTED_REFUSED, None) => false,
+        (NUMBER_0_OF_ONE_TAKEN, Some(0)) => true,
+        (ANY_NUMBER_OF_ONE_TAKEN, Some(_)) => true,
+        (EITHER_FORM_TAKEN, _) => true,
+        (CARRIED_0_REFUSED, Some(0)) => false,
+        (FORM_ASKED_OF_ONE_CHILD_ALONE, _) => right || k > 1,
+        (FORM_ASKED_OF_SEVERAL_REFERENCES_ALONE, _) => right || pairs.len() == 1,
+        _ => right,
+    };
+    let number = match (fault, number) {
+        (NUMBER_IGNORED, _) => 0,
+        (ANY_NUMBER_OF_ONE_TAKEN, Some(_)) if !exists(1) => 0,
+        (OMITTED_TAKEN_AS_THE_LAST, None) => (1..4_096).take_while(|&n| exists(n)).count() as u64,
+        (NUMBER_LOW_12_BITS, Some(number)) => u64::from(number % 4_096),
+        _ => u64::from(number.unwrap_or(0)),
+    };
+    match taken {
+        true => order_of_number(pairs, number),
+        false => None,
+    }
 }
 
 /// The children in place of the node, the first on the top.

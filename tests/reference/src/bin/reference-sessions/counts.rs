@@ -44,10 +44,18 @@ pub enum Claim {
     FallingGets10,
     /// And the genuine composition is accepted after that.
     GenuineAfterFalling,
+    /// "A composition whose trail is the only one omits the number word"
+    OmittedWhereOnly,
+    /// "and one with others carries it"
+    CarriedWhereOthers,
+    /// "A composition that omits the number where two trails exist ... fails question 17"
+    DroppedGets17,
+    /// The same of one that "carries one where only one does".
+    AddedGets17,
 }
 
 /// All claims.
-pub const CLAIMS: [Claim; 19] = [
+pub const CLAIMS: [Claim; 23] = [
     Claim::DeliveredIsAccepted,
     Claim::AtMost4097,
     Claim::BoundIsReached,
@@ -67,14 +75,22 @@ pub const CLAIMS: [Claim; 19] = [
     Claim::OneComposition,
     Claim::FallingGets10,
     Claim::GenuineAfterFalling,
+    Claim::OmittedWhereOnly,
+    Claim::CarriedWhereOthers,
+    Claim::DroppedGets17,
+    Claim::AddedGets17,
 ];
 
 /// Claims about what comes in every run, however few sessions it has: one of which no case was looked
 /// at says nothing.
-const ALWAYS: [Claim; 3] = [
+const ALWAYS: [Claim; 7] = [
     Claim::OneComposition,
     Claim::FallingGets10,
     Claim::GenuineAfterFalling,
+    Claim::OmittedWhereOnly,
+    Claim::CarriedWhereOthers,
+    Claim::DroppedGets17,
+    Claim::AddedGets17,
 ];
 
 /// How often a claim was looked at, in how many cases it did not hold, and the first of them.

@@ -118,12 +118,18 @@ fn changed(mut body: Body, random: &mut Random) -> Body {
             match random.between(0, 2) {
                 0 => references[place].count = random.between(1, 32) as u32,
                 1 => drop(references.remove(place)),
-                _ => *number = random.by_size(0, 4_097) as u32,
+                _ => *number = any_number(random),
             }
         }
         _ => {}
     }
     body
+}
+
+/// A trail number, or none.
+fn any_number(random: &mut Random) -> Option<u32> {
+    let number = random.by_size(0, 4_097) as u32;
+    random.one_of(&[None, Some(0), Some(1), Some(number)])
 }
 
 /// A composition with references that do not rise: two exchanged, all in falling order, or one a
@@ -185,7 +191,7 @@ fn composition(level: u32, id: u64, list: &[Shingle], random: &mut Random) -> Bo
         references.sort_by_key(|reference| reference.index);
         references.dedup_by_key(|reference| reference.index);
     }
-    let number = random.one_of(&[0, 0, 0, 1, 4_095, 4_096]);
+    let number = random.one_of(&[None, None, Some(0), Some(1), Some(4_095), Some(4_096)]);
     Body::Composition {
         level,
         id,
@@ -236,7 +242,7 @@ pub fn endless_reply(query: &[u8], list: &[Shingle], levels: u64) -> Vec<u8> {
         true => Body::Composition {
             level,
             id,
-            number: 0,
+            number: None,
             references: vec![reference(0, 1), reference(ENDLESS, 31)],
         },
         false => Body::Literal {

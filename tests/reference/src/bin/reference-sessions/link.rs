@@ -4,6 +4,7 @@
 use crate::conditions::{no_id_shared, node_query, opens_truly, queries};
 use crate::counts::{Claim, Counts};
 use crate::forgery::not_rising;
+use crate::forms::look_at_other_forms;
 use crate::random::Random;
 use crate::run::{OwnOpening, Run};
 use crate::sender_end::{looked_at_reply, memory, SenderEnd, REPLY_BYTES};
@@ -86,6 +87,25 @@ impl Ends {
         }
     }
 
+    /// A sender whose whole string is one of two trails: "With w=2, p=2, L=1, M=2" these seven bytes have
+    /// the blocks a, a, b, a and one more, which a, b, a, a and it have too.
+    fn two_trails(string: [u8; 7]) -> Ends {
+        Ends {
+            settings: Settings {
+                window: 2,
+                fan_out: 2,
+                levels: 1,
+                nominal: 2,
+            },
+            width: 64,
+            number: 2,
+            sender: string.to_vec(),
+            own: vec![9],
+            output_bytes: string.len(),
+            label: format!("two trails {string:?}"),
+        }
+    }
+
     /// The session number on the link.
     pub fn session(&self) -> u32 {
         (self.number % (1 << 24)) as u32
@@ -148,14 +168,19 @@ impl<'a> Genuine<'a> {
 
     /// Takes a genuine message.
     fn take(&mut self, message: &[u8]) {
-        let query = self.run.query();
         let before = self.run.accepted;
+        let reply = match (&self.queries, self.run.query()) {
+            (Some(_), Some(query)) => Some(self.reply(&query)),
+            _ => None,
+        };
+        let delivered = reply.is_some_and(|reply| reply == message);
+        if delivered {
+            look_at_other_forms(&mut self.run, &self.sender, message);
+        }
         let answer = self.run.take(message);
         if self.queries.is_none() {
             return;
         }
-        let reply = query.map(|query| self.reply(&query));
-        let delivered = reply.is_some_and(|reply| reply == message);
         let what = format!("{answer:?}");
         if delivered {
             let accepted = !matches!(answer, Answer::Refused(_));
@@ -306,6 +331,16 @@ pub fn most_replies(random: &mut Random, counts: &mut Counts) {
     let most = counts.most;
     let case = || format!("{most} replies accepted");
     counts.claim(Claim::BoundIsReached, most == 4_097, case);
+}
+
+/// Strings of which one is the first and one the second of two trails.
+const TWO_TRAILS: [[u8; 7]; 2] = [[1, 1, 0, 1, 0, 1, 0], [3, 3, 1, 3, 1, 3, 0]];
+
+/// Sessions of both, to their ends.
+pub fn two_trails(random: &mut Random, counts: &mut Counts) {
+    for string in TWO_TRAILS {
+        session(&Ends::two_trails(string), true, random, counts);
+    }
 }
 
 /// One thing that happens at an end or on the link.

@@ -2,15 +2,17 @@
 //!
 //!     reference-sessions SEED SESSIONS
 //!
-//! The first part takes genuine messages, and compositions whose references do not rise; the second one
-//! also other forged and damaged messages, and lends altered memory. Prints what was counted, and fails
-//! where a claim was broken, or one of those that every run has never came up.
+//! The first part takes genuine messages, and compositions whose references do not rise or which have a
+//! trail number where they may not; the second one also other forged and damaged messages, and lends
+//! altered memory. Prints what was counted, and fails where a claim was broken, or one of those that every
+//! run has never came up.
 
 mod alter;
 mod conditions;
 mod counts;
 mod forged;
 mod forgery;
+mod forms;
 mod link;
 mod random;
 mod run;
@@ -32,6 +34,7 @@ fn main() {
     let mut genuine = Counts::default();
     let mut random = Random::of_session(seed, u64::MAX);
     link::most_replies(&mut random, &mut genuine);
+    link::two_trails(&mut random, &mut genuine);
     for k in 0..sessions / 2 {
         let mut random = Random::of_session(seed, k);
         let label = format!("seed {seed} session {k}");

@@ -1,6 +1,7 @@
 //! A sender with its memory, whose replies are looked at as they are written.
 
 use crate::counts::{Claim, Counts};
+use crate::forms::look_at_form;
 use crate::random::Random;
 use reference::lent::Lent;
 use reference::message::{parse, Body};
@@ -114,6 +115,7 @@ impl SenderEnd {
         let ends = (&self.settings, self.width);
         let reply = looked_at_reply(ends, &self.lent, query, REPLY_BYTES, counts)
             .expect("a query has a reply");
+        look_at_form(&self.lent, &reply, counts);
         self.written.insert(query.to_vec(), (reply.clone(), 1));
         reply
     }
