@@ -372,7 +372,8 @@ static inline uint64_t rcds_crossed_parent(const uint8_t *crossed, size_t k)
  * over a multiset of pairs is an order whose pairs are exactly these. Trails
  * are sorted by ids, first id first, unsigned; the number of a trail is how
  * many come before it. So the pairs, in any order, and the number give the
- * order again. Most multisets have one trail, and then the pairs alone do.
+ * order again. The pairs of most nodes' children have one trail, and then they
+ * give the order by themselves.
  *
  * Ids and counts are rows of 64 bits, most significant byte first.
  */
