@@ -176,8 +176,3 @@ module _ (list : List Shingle) (level : ℕ) (message : List ℕ) (at count k : 
       let fits = c .fits in
       let done : refsIn message at k ≡ refsIn message at count = ap (refsIn message at) {x = k} {y = count} (omega arith) in
       record { is = sym (ap (allNamed list level) (sym done) ∙ c .named-all); columns = λ e. rw (← done) (c .columns) }
-
--- The same said of where the references stand.
-pub filled-from : {list : List Shingle} {level : ℕ} (message : List ℕ) {at from : ℕ} (count : ℕ) {table : Table} → at ≡ from
-    → Filled list level (refsIn message at count) table → Filled list level (refsIn message from count) table
-filled-from message count e filled = rw (← e) filled

@@ -2,7 +2,7 @@
 use mathlib.Core.Bool.{Bool, true, false, _&&_}
 use mathlib.Core.List.{List, [], _∷_, _++_, map, append-nil}
 use mathlib.Core.Path.{_≡_, refl, sym, ap, subst, _∙_}
-use Prim.Native.Nat.{ℕ, suc, _+_, _*_, _-_, _≤_, _<_}
+use Prim.Native.Nat.{ℕ, suc, _+_, _*_, _≤_, _<_}
 use native.Mathlib.Omega.{arith}
 use lib.Dec.{leb, ltb}
 use lib.ListN.{length, take, length-map}
@@ -22,13 +22,13 @@ use Rattle.sketch.specs.Opening.{takenOf, opensTo, newList}
 use Rattle.setup.specs.Tables.{shinglesOfString}
 use Rattle.setup.proofs.Questions.{lent as lent-passed, long-enough}
 use Rattle.trail.specs.Trails.{trailNumber}
-use Rattle.trail.specs.Calls.{nonzero}
+use Rattle.trail.specs.Calls.{numberable}
 use Rattle.message.specs.Words.{Ref}
 use Rattle.message.specs.Messages.{Msg, nodeQuery, opening, composition, literal}
 use Rattle.protocol.specs.Lent.{Lent, refusedBy, withShingles}
 use Rattle.protocol.specs.State.{Pending, State, pending, initial, going}
 use Rattle.protocol.specs.Numbers.{stated}
-use Rattle.protocol.specs.Sender.{ruleNumber, composable, refsOf}
+use Rattle.protocol.specs.Sender.{ruleNumber, hasNumber, composable, refsOf}
 use Rattle.single.specs.Peeling.{rowsIn}
 use Rattle.protocol.specs.Receiver.{peeledOf, openingRefusal, takeOpening, below, nodeRefusal, composes, children, takeNode, act, find, settle}
 use Rattle.single.specs.Peeling.{listTable}
@@ -181,14 +181,12 @@ module _ (σ : Settings) (string own : List ℕ) (n : ℕ) (sender : Accepted σ
 
     block-accepted : (session : ℕ) (t : Bool) → composable σ (c .level) (childrenIds σ (c .level) (c .bytes)) ≡ t
         → Outcome σ string own n still (act s m (blockReply σ string session (c .level) (blockId (c .bytes)) (c .bytes) t))
-    unfolding blockReply composable
+    unfolding blockReply composable hasNumber
     block-accepted session false e = literal-accepted session (c .level) (blockId (c .bytes))
     block-accepted session true e =
         let ids = childrenIds σ (c .level) (c .bytes) in
         let deep = and-true (ltb (c .level) (σ .levels)) _ e in
-        let some = and-true (ltb 0 (length ids)) _ (deep .1) in
-        let few = and-true (ltb (length ids) 33) _ (some .1) in
-        let numbered = and-true (nonzero ids) (ltb (trailNumber ids) 4096) (few .1) in
+        let numbered = and-true (numberable ids) (ltb (trailNumber ids) 4096) (deep .1) in
         composition-accepted (ltb-true _ _ (deep .0)) (let h = ltb-true (trailNumber ids) 4096 (numbered .1) in omega (arith, h)) session (blockId (c .bytes))
 
     pub node-accepted : (session : ℕ) (x : Msg) → IsReply σ string (nodeQuery session (c .level) (blockId (c .bytes))) x → Outcome σ string own n still (act s m x)

@@ -5,7 +5,7 @@ use mathlib.Core.Option.{Option, none, some}
 use mathlib.Core.Path.{_≡_, refl, sym, ap, _∙_}
 use Prim.Native.Nat.{ℕ, _+_, _≤_}
 use native.Mathlib.Omega.{arith}
-use lib.Dec.{leb, ltb, eqb}
+use lib.Dec.{leb, ltb}
 use lib.ListN.{length}
 use borrow.Author.Tests.{eq-eqb, ne-eqb}
 use Rattle.tree.specs.declared.Settings.{Settings}
@@ -60,7 +60,7 @@ module _ (ps os cs : List ℕ) (long : (length ps ≡ length cs) × (length os �
   meant-number = go (onlyTrail ids) refl
     where
       go : (t : Bool) → onlyTrail ids ≡ t → meantBy (stated ids) ≡ trailNumber ids
-      go true e = ap meantBy (stated-only ids e) ∙ sym (only-first ps os cs long ids pairs e .0)
+      go true e = ap meantBy (stated-only ids e) ∙ sym (only-first ps os cs long ids pairs e)
       go false e = ap meantBy (stated-others ids e)
 
   pub stated-rightly : rightly (stated ids) (onlyOver ps os cs) ≡ true

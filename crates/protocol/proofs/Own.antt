@@ -25,14 +25,12 @@ use Rattle.shingle.proofs.Rising.{shingles-rise}
 use Rattle.setup.specs.Tables.{shinglesOfString}
 use Rattle.setup.proofs.Sizes.{few-shingles}
 use Rattle.setup.proofs.Accepted.{first-id}
-use Rattle.trail.specs.Trails.{trailNumber}
-use Rattle.trail.specs.Calls.{nonzero}
 use Rattle.message.specs.Messages.{Msg, openingQuery, nodeQuery, opening, composition, literal, noNode}
 use Rattle.protocol.specs.Lent.{Lent}
 use Rattle.node_table.specs.Nodes.{inside, entriesIn, fromFirst}
 use Rattle.protocol.specs.Nodes.{blockIn}
 use Rattle.protocol.specs.Numbers.{stated}
-use Rattle.protocol.specs.Sender.{ruleNumber, childIds, composable, refsOf, referable, nodeReply, openingReply, replyTo}
+use Rattle.protocol.specs.Sender.{ruleNumber, childIds, hasNumber, composable, refsOf, referable, nodeReply, openingReply, replyTo}
 use Rattle.protocol.specs.Genuine.{blocksOf, childrenIds, firstOf, blockReply, foundReply, IsReply}
 use Rattle.protocol.specs.Demand.{SetupAccepts, leftBySetup}
 use Rattle.protocol.proofs.Memory.{few, made, nodes-is, accepted, cells-again, list-again}
@@ -196,10 +194,8 @@ module _ (σ : Settings) (string : List ℕ) (n l i : ℕ) (listed : length (shi
     unfolding composable
     shallow-only a b e = go (ltb l (σ .levels)) refl
       where
-        go : (t : Bool) → ltb l (σ .levels) ≡ t
-            → (t && (ltb 0 (length a) && (ltb (length a) 33 && (nonzero a && ltb (trailNumber a) 4096))))
-            ≡ (t && (ltb 0 (length b) && (ltb (length b) 33 && (nonzero b && ltb (trailNumber b) 4096))))
-        go true f = ap (λ (c : List ℕ). ltb 0 (length c) && (ltb (length c) 33 && (nonzero c && ltb (trailNumber c) 4096))) (e (ltb-true l (σ .levels) f))
+        go : (t : Bool) → ltb l (σ .levels) ≡ t → (t && hasNumber a) ≡ (t && hasNumber b)
+        go true f = ap hasNumber (e (ltb-true l (σ .levels) f))
         go false f = refl
 
     deep-enough : (a : List ℕ) → composable σ l a ≡ true → l < σ .levels

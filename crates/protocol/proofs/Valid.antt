@@ -29,6 +29,7 @@ use Rattle.setup.specs.Tables.{shinglesOfString}
 use Rattle.setup.proofs.Questions.{width-within}
 use Rattle.setup.proofs.Sizes.{length-cells, few-shingles}
 use Rattle.trail.specs.Trails.{onlyTrail}
+use Rattle.trail.specs.Calls.{numberable}
 use Rattle.trail.proofs.Answers.{number-small}
 use Rattle.message.specs.Words.{Ref, plain, numberWord, referenceWord}
 use Rattle.message.specs.Fields.{one, value, values, valuesTo, many, manyTo, maybeTo, MaybeFits, maybe, only, rising, text, textTo}
@@ -36,7 +37,7 @@ use Rattle.message.specs.Fields.{Every as All}
 use Rattle.message.specs.Messages.{Msg, openingQuery, nodeQuery, opening, composition, literal, noNode, cellValues, headed, wordsThen, sizeOf, Parts, Valid}
 use Rattle.message.proofs.Rising.{risingFrom, rising-from-zero}
 use Rattle.protocol.specs.Numbers.{stated}
-use Rattle.protocol.specs.Sender.{ruleNumber, composable, refer, refsFrom, refsOf, indexed, referable}
+use Rattle.protocol.specs.Sender.{ruleNumber, hasNumber, composable, refer, refsFrom, refsOf, indexed, referable}
 use Rattle.protocol.specs.Calls.{Every}
 use Rattle.protocol.specs.Genuine.{blocksOf, Accepted, childrenIds, firstOf, blockReply, foundReply, IsReply}
 use Rattle.protocol.proofs.Memory.{same-bytes, none-not}
@@ -177,10 +178,10 @@ valid-literal n l i bytes v p =
     record { size = omega (arith, e, h, p .short); parts = (v .parts .0, v .parts .1, v .parts .2, p .bytes-fit) }
 
 pub few-children : (σ : Settings) (l : ℕ) (ids : List ℕ) → composable σ l ids ≡ true → length ids ≤ 32
-unfolding composable
+unfolding composable hasNumber numberable
 few-children σ l ids e =
-    let some = and-true (ltb l (σ .levels)) _ e .1 in
-    let few = ltb-true (length ids) 33 (and-true (ltb (length ids) 33) _ (and-true (ltb 0 (length ids)) _ some .1) .0) in
+    let numbered = and-true (numberable ids) _ (and-true (ltb l (σ .levels)) _ e .1) .0 in
+    let few = ltb-true (length ids) 33 (and-true (ltb (length ids) 33) _ (and-true (ltb 0 (length ids)) _ numbered .1) .0) in
     omega (arith, few)
 
 -- A number that is carried is within its field, and it is one word.

@@ -15,7 +15,7 @@ use Rattle.shingle.specs.Children.{pairsAlong}
 use Rattle.shingle.specs.Table.{shinglesIn}
 use Rattle.single.specs.Peeling.{rowsIn}
 use Rattle.trail.specs.Trails.{trailNumber}
-use Rattle.trail.specs.Calls.{nonzero}
+use Rattle.trail.specs.Calls.{numberable}
 use Rattle.message.specs.Words.{Ref}
 use Rattle.message.specs.Messages.{Msg, openingQuery, nodeQuery, opening, composition, literal, noNode, encode, parse}
 use Rattle.protocol.specs.Lent.{Lent, refusedBy}
@@ -35,10 +35,13 @@ childIds n l [] = []
 childIds n l (e ∷ es) =
     cond (leb (e .level) l) [] (cond (inside n e && eqb (e .level) (l + 1)) (e .id ∷ childIds n l es) (childIds n l es))
 
--- A type 4 can be written: the level is below L, and the order of the children has a number of at most 4,095.
+-- The order of the children has a number of at most 4,095.
+unfoldable pub hasNumber : List ℕ → Bool
+hasNumber ids = numberable ids && ltb (trailNumber ids) 4096
+
+-- A type 4 can be written: the level is below L, and the children have such a number.
 unfoldable pub composable : Settings → ℕ → List ℕ → Bool
-composable σ l ids =
-    ltb l (σ .levels) && (ltb 0 (length ids) && (ltb (length ids) 33 && (nonzero ids && ltb (trailNumber ids) 4096)))
+composable σ l ids = ltb l (σ .levels) && hasNumber ids
 
 -- A reference, put in front unless its count is 0.
 unfoldable pub refer : ℕ → ℕ → List Ref → List Ref

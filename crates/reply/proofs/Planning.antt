@@ -12,17 +12,17 @@ use Rattle.entries.proofs.Linear.{both}
 use Rattle.tree.specs.declared.Settings.{Settings}
 use Rattle.shingle.specs.Table.{shinglesIn}
 use Rattle.trail.specs.Trails.{trailNumber, onlyTrail}
-use Rattle.trail.specs.Calls.{nonzero, numberable, unnumbered, numberAnswer}
+use Rattle.trail.specs.Calls.{numberable, unnumbered, numberAnswer}
 use Rattle.trail.specs.declared.Numbered.{Numbered}
 use Rattle.message.specs.Words.{Ref}
 use Rattle.message.specs.Reading.{statedBy}
 use Rattle.message_writer.specs.Writing.{paired}
 use Rattle.node_table.specs.Nodes.{entriesFrom}
 use Rattle.protocol.specs.Numbers.{stated}
-use Rattle.protocol.specs.Sender.{childIds, composable, refsOf, referable}
+use Rattle.protocol.specs.Sender.{childIds, hasNumber, composable, refsOf, referable}
 use Rattle.reply.specs.declared.plan.Plan.{Plan}
 use Rattle.reply.specs.declared.reference.References.{References}
-use Rattle.reply.specs.Parts.{Collected, Referred, hasNumber, referencesOf, Planned, idsBelow, NodePlanned}
+use Rattle.reply.specs.Parts.{Collected, Referred, referencesOf, Planned, idsBelow, NodePlanned}
 
 -- The node's bytes, where there is no composition.
 pub plain-planned : {possible : Bool} {ids : List ℕ} {refs : List Ref} {p : Plan} → p .composed ≡ false → possible ≡ false → Planned possible ids refs p
@@ -46,16 +46,6 @@ both-true a b e f = rw (e, f)
 
 -- An order's number from the answer to numbering it, and whether it is carried.
 module _ (ids : List ℕ) where
-  has-number-is : hasNumber ids ≡ numberable ids && ltb (trailNumber ids) 4096
-  unfolding hasNumber numberable
-  has-number-is = shifted (ltb 0 (length ids)) (ltb (length ids) 33) (nonzero ids) (ltb (trailNumber ids) 4096)
-    where
-      shifted : (a b c d : Bool) → a && (b && (c && d)) ≡ (a && (b && c)) && d
-      shifted true true true d = refl
-      shifted true true false d = refl
-      shifted true false c d = refl
-      shifted false b c d = refl
-
   stated-so : (only : Bool) (x : ℕ) → only ≡ onlyTrail ids → x ≡ trailNumber ids → statedBy (not only) x ≡ stated ids
   unfolding stated
   stated-so true x e f = rw (← e) refl
@@ -70,14 +60,16 @@ module _ (ids : List ℕ) where
     answer-is = is
 
     pub no-number : order .answer < 2 ^ 32 → hasNumber ids ≡ false
-    no-number h = has-number-is ∙ go (numberable ids) answer-is
+    unfolding hasNumber
+    no-number h = go (numberable ids) answer-is
       where
         go : (t : Bool) → order ≡ answered t → t && ltb (trailNumber ids) 4096 ≡ false
         go true e = absurd (omega (arith, h, ap (λ (r : Numbered). r .answer) e))
         go false e = refl
 
     pub number-above : 2 ^ 32 + 4095 < order .answer → hasNumber ids ≡ false
-    number-above h = has-number-is ∙ go (numberable ids) answer-is
+    unfolding hasNumber
+    number-above h = go (numberable ids) answer-is
       where
         go : (t : Bool) → order ≡ answered t → t && ltb (trailNumber ids) 4096 ≡ false
         go true e = le-ltb (trailNumber ids) 4096 (omega (arith, h, ap (λ (r : Numbered). r .answer) e))
@@ -85,16 +77,17 @@ module _ (ids : List ℕ) where
 
     pub number-is : 2 ^ 32 ≤ order .answer → order .answer ≤ 2 ^ 32 + 4095
         → (hasNumber ids ≡ true) × (statedBy (not (order .only)) (order .answer - 2 ^ 32) ≡ stated ids)
-    number-is low high = go (numberable ids) answer-is has-number-is
+    unfolding hasNumber
+    number-is low high = go (numberable ids) answer-is
       where
-        go : (t : Bool) → order ≡ answered t → hasNumber ids ≡ t && ltb (trailNumber ids) 4096
-            → (hasNumber ids ≡ true) × (statedBy (not (order .only)) (order .answer - 2 ^ 32) ≡ stated ids)
-        go true e n =
+        go : (t : Bool) → order ≡ answered t
+            → ((t && ltb (trailNumber ids) 4096) ≡ true) × (statedBy (not (order .only)) (order .answer - 2 ^ 32) ≡ stated ids)
+        go true e =
             let answer = ap (λ (r : Numbered). r .answer) e in (
-              n ∙ lt-ltb (trailNumber ids) 4096 (omega (arith, high, answer)),
+              lt-ltb (trailNumber ids) 4096 (omega (arith, high, answer)),
               stated-so (order .only) (order .answer - 2 ^ 32) (ap (λ (r : Numbered). r .only) e) (omega (arith, answer)),
             )
-        go false e n = absurd (omega (arith, low, ap (λ (r : Numbered). r .answer) e))
+        go false e = absurd (omega (arith, low, ap (λ (r : Numbered). r .answer) e))
 
 paired-few : (xs ys : List ℕ) → length (paired xs ys) ≤ length xs
 unfolding paired
@@ -103,7 +96,7 @@ paired-few (x ∷ xs) [] = omega arith
 paired-few (x ∷ xs) (y ∷ ys) = let h = paired-few xs ys in omega arith
 
 composable-below : (σ : Settings) (l : ℕ) (ids : List ℕ) → l < σ .levels → composable σ l ids ≡ hasNumber ids
-unfolding composable hasNumber
+unfolding composable
 composable-below σ l ids h = rw (lt-ltb l (σ .levels) h)
 
 moved : (σ : Settings) (shingles ids below : List ℕ) (l : ℕ) {p : Plan} → ids ≡ below → composable σ l below ≡ hasNumber below
@@ -153,12 +146,12 @@ module _ (σ : Settings) (n : ℕ) (nodes shingles : List ℕ) (l k : ℕ) (p : 
   module _ (count : ℕ) (ids : List ℕ)
       (c : Collected (childIds n l (entriesFrom nodes (length nodes / 16 - (k + 1)) (k + 1))) count ids) where
     pub too-many-children : p .composed ≡ false → 32 < count → NodePlanned σ n nodes shingles l k p
-    unfolding composable idsBelow
+    unfolding composable hasNumber numberable idsBelow
     too-many-children e h =
         let many = c .many h in
         let ids = idsBelow nodes n l k in
-        plain-planned e
-        (first-false _ _ (second-false (ltb l (σ .levels)) _ (second-false (ltb 0 (length ids)) _ (first-false _ _ (le-ltb (length ids) 33 (omega arith))))))
+        let above = second-false (ltb 0 (length ids)) _ (first-false _ _ (le-ltb (length ids) 33 (omega arith))) in
+        plain-planned e (first-false _ _ (second-false (ltb l (σ .levels)) _ (first-false _ _ above)))
 
     pub planned-below : l < σ .levels → count ≤ 32
         → Planned (hasNumber (take count ids) && referable (shinglesIn shingles) (l + 1) (take count ids)) (take count ids)

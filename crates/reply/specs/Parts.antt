@@ -8,8 +8,6 @@ use lib.ListN.{length, take}
 use Rattle.tree.specs.declared.Settings.{Settings}
 use Rattle.node_table.specs.Entries.{idAt, levelAt, entryAt}
 use Rattle.shingle.specs.Table.{shinglesIn}
-use Rattle.trail.specs.Trails.{trailNumber}
-use Rattle.trail.specs.Calls.{nonzero}
 use Rattle.message.specs.Words.{Ref}
 use Rattle.message.specs.Messages.{Msg, composition}
 use Rattle.message.specs.Reading.{statedBy}
@@ -60,10 +58,6 @@ pub record Referred (all : List Ref) (count : ℕ) (indexes counts : List ℕ) :
   pub few : count ≤ 32 → paired (take count indexes) (take count counts) ≡ all
   pub low : count ≤ 32 → indexed all ≡ true
   pub many : 32 < count → (ltb (length all) 33 && indexed all) ≡ false
-
--- The order has a number of at most 4,095.
-unfoldable pub hasNumber : List ℕ → Bool
-hasNumber ids = ltb 0 (length ids) && (ltb (length ids) 33 && (nonzero ids && ltb (trailNumber ids) 4096))
 
 -- The references of a plan stand in their places, and which they are.
 pub record Writable (p : Plan) : Type 0 where

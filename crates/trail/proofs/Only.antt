@@ -7,9 +7,9 @@ use native.Mathlib.Omega.{arith}
 use borrow.Author.Tests.{eq-eqb, ne-eqb, eqb-true}
 use lib.Dec.{eqb}
 use lib.ListN.{length}
-use Rattle.trail.specs.Trails.{pairsFrom, pairsOf, countBefore, trailsLike, trailsOver, trailNumber, orderOf, onlyTrail, onlyOver}
+use Rattle.trail.specs.Trails.{pairsFrom, pairsOf, trailsOver, trailNumber, onlyTrail, onlyOver}
 use Rattle.trail.specs.Search.{Answer, Numberable}
-use Rattle.trail.proofs.Orders.{same-trails, pairs-listed, number-listed}
+use Rattle.trail.proofs.Orders.{same-trails, number-listed}
 use Rattle.trail.proofs.Ranking.{columns, pairs-first}
 
 module _ (ps os cs : List ℕ) where
@@ -27,14 +27,11 @@ module _ (ps os cs : List ℕ) where
     only-alike = ap (λ (list : List (List ℕ)). eqb (length list) 1) (same-trails ps os cs long xs pairs)
 
     -- The only trail is the first: it needs no number.
-    pub only-first : onlyTrail xs ≡ true → (trailNumber xs ≡ 0) × (0 < length (trailsOver ps os cs)) × (orderOf ps os cs 0 ≡ xs)
-    unfolding trailNumber onlyTrail
+    pub only-first : onlyTrail xs ≡ true → trailNumber xs ≡ 0
+    unfolding onlyOver
     only-first e =
-        let same = same-trails ps os cs long xs pairs in
-        let one : length (trailsOver ps os cs) ≡ 1 = ap length (sym same) ∙ eqb-true (length (trailsLike xs)) 1 e in
-        let there = pairs-listed ps os cs long xs pairs in
-        let place : countBefore xs (trailsOver ps os cs) ≡ 0 = omega (arith, one, there .0) in
-        (omega (arith, place, ap (countBefore xs) same), omega (arith, one), ap (orderOf ps os cs) (sym place) ∙ there .1)
+        let one = eqb-true (length (trailsOver ps os cs)) 1 (sym only-alike ∙ e) in
+        omega (arith, one, number-listed ps os cs long xs pairs)
 
 -- Over the table of an order's own pairs: its number is a trail's, and it is the only one exactly if the table has one trail.
 module _ {xs ps os cs : List ℕ} (n : Numberable xs ps os cs) where

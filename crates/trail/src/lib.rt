@@ -1,4 +1,5 @@
-// Trails: a node's children travel as an unordered multiset of pairs and one number, which together give back their order.
+// Trails: a node's children travel as an unordered multiset of pairs and, where these have several orders, one number; from
+// that their order is had again.
 // `number` says which of the multiset's trails an order is, and `order` gives the trail of a number; both say whether it is
 // the only one.
 mod links;

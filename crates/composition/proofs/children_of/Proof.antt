@@ -1,13 +1,30 @@
 -- Each way out is a case of the definition: the laws of `Answering`.
-use mathlib.Core.Path.{sym, ap, _∙_}
+use mathlib.Core.Path.{_≡_, sym, ap, _∙_}
+use Prim.Native.Nat.{_+_}
 use native.Mathlib.Omega.{arith}
 use borrow.Author.Needs.{needs}
 use borrow.Author.Tests.{not-true, not-false}
+use Rattle.shingle.specs.Table.{shinglesIn}
 use Rattle.trail.specs.Calls.{orderAnswer}
-use Rattle.composition.proofs.Filling.{length-refs, filled-from}
+use Rattle.message.specs.Reading.{statedBy, referencesAt}
+use Rattle.protocol.specs.Numbers.{meantBy}
+use Rattle.composition.specs.Composition.{refsIn}
+use Rattle.composition.specs.Table.{Filled}
+use Rattle.composition.proofs.Filling.{length-refs}
 use Rattle.composition.proofs.Answering.{level-too-low, too-many, one-unnamed, no-trail, trail-short, carried-wrongly, pile-too-high, composed}
 use Rattle.composition.proofs.children_of.Statement.{statement}
 use Rattle.composition.proofs.children_of.Tie as tie
+
+-- The pairs are those of the message's references, from where they stand.
+table-is : (c : tie.After-fill) → let a = c .before .before .before .before .before .before .before .args in
+    Filled (shinglesIn (a .shingles .now)) (a .level + 1) (refsIn (a .message .now) (referencesAt (a .numbered)) (a .count)) (c .fill .result)
+table-is c = rw (← c .before .references-from .ensures) (c .fill .ensures)
+
+-- The trail is the one that the composition means.
+trail-is : (c : tie.After-order) → let filled = c .before .before .before .before in
+    let a = filled .before .before .before .before .before .before .before .args in
+    c .order .result ≡ orderAnswer (filled .fill .result .pairs) (meantBy (statedBy (a .numbered) (a .number)))
+trail-is c = c .order .ensures ∙ ap (orderAnswer _) (c .before .meant .ensures)
 
 refuse-requires : tie.Need-refuse-requires
 refuse-requires c κs = search needs
@@ -36,7 +53,7 @@ refuse-requires-3 c κs = search needs
 returns-3 : tie.Need-returns-3
 returns-3 c =
     let filled = c .before .before .before in
-    one-unnamed _ _ _ _ _ _ _ (filled-from _ _ (filled .before .references-from .ensures) (filled .fill .ensures)) _ (c .refuse3 .ensures)
+    one-unnamed _ _ _ _ _ _ _ (table-is filled) _ (c .refuse3 .ensures)
     (not-true _ (c .before .if3 .taken))
 
 meant-requires : tie.Need-meant-requires
@@ -53,8 +70,8 @@ returns-4 c =
     let found = c .before .before in
     let named = found .before .before in
     let filled = named .before .before in
-    no-trail _ _ _ _ _ _ _ (filled-from _ _ (filled .before .references-from .ensures) (filled .fill .ensures)) (not-false _ (named .if3 .left)) _
-    (found .order .ensures ∙ ap (orderAnswer _) (found .before .meant .ensures)) _ (c .refuse4 .ensures) (c .before .if4 .taken)
+    no-trail _ _ _ _ _ _ _ (table-is filled) (not-false _ (named .if3 .left)) _
+    (trail-is found) _ (c .refuse4 .ensures) (c .before .if4 .taken)
 
 carried-rightly-requires : tie.Need-carried-rightly-requires
 carried-rightly-requires c κs = search needs
@@ -69,8 +86,8 @@ returns-5 c =
     let found = some .before in
     let named = found .before .before in
     let filled = named .before .before in
-    carried-wrongly _ _ _ _ _ _ _ (filled-from _ _ (filled .before .references-from .ensures) (filled .fill .ensures)) (not-false _ (named .if3 .left)) _
-    (found .order .ensures ∙ ap (orderAnswer _) (found .before .meant .ensures)) (some .if4 .left) _ (c .refuse5 .ensures)
+    carried-wrongly _ _ _ _ _ _ _ (table-is filled) (not-false _ (named .if3 .left)) _
+    (trail-is found) (some .if4 .left) _ (c .refuse5 .ensures)
     (sym (asked .carried-rightly .ensures _) ∙ not-true _ (c .before .if5 .taken))
 
 sub-if6 : tie.Need-sub-if6
@@ -79,8 +96,8 @@ sub-if6 c =
     let found = some .before in
     let named = found .before .before in
     let filled = named .before .before in
-    let short = trail-short _ _ _ _ _ (filled .fill .ensures) (not-false _ (named .if3 .left)) _
-    (found .order .ensures ∙ ap (orderAnswer _) (found .before .meant .ensures)) (some .if4 .left) in
+    let short = trail-short _ _ _ _ _ (table-is filled) (not-false _ (named .if3 .left)) _
+    (trail-is found) (some .if4 .left) in
     omega (arith, short)
 
 refuse-requires-6 : tie.Need-refuse-requires-6
@@ -92,8 +109,8 @@ returns-6 c =
     let found = some .before in
     let named = found .before .before in
     let filled = named .before .before in
-    pile-too-high _ _ _ _ _ _ _ (filled-from _ _ (filled .before .references-from .ensures) (filled .fill .ensures)) (not-false _ (named .if3 .left)) _
-    (found .order .ensures ∙ ap (orderAnswer _) (found .before .meant .ensures)) (some .if4 .left) _ (c .refuse6 .ensures) (c .before .if6 .taken)
+    pile-too-high _ _ _ _ _ _ _ (table-is filled) (not-false _ (named .if3 .left)) _
+    (trail-is found) (some .if4 .left) _ (c .refuse6 .ensures) (c .before .if6 .taken)
 
 returns-7 : tie.Need-returns-7
 returns-7 c =
@@ -103,8 +120,8 @@ returns-7 c =
     let named = found .before .before in
     let filled = named .before .before in
     let few = filled .before .before in
-    composed _ _ _ _ _ _ _ (filled-from _ _ (filled .before .references-from .ensures) (filled .fill .ensures)) (not-false _ (named .if3 .left)) _
-    (found .order .ensures ∙ ap (orderAnswer _) (found .before .meant .ensures)) (some .if4 .left) _ (length-refs _ _ _) (few .if2 .left)
+    composed _ _ _ _ _ _ _ (table-is filled) (not-false _ (named .if3 .left)) _
+    (trail-is found) (some .if4 .left) _ (length-refs _ _ _) (few .if2 .left)
     (few .before .if1 .left) (sym (carried .before .carried-rightly .ensures _) ∙ not-false _ (carried .if5 .left)) (c .before .if6 .left)
 
 pub children-of-spec : {M : Type 1} → statement M
