@@ -70,6 +70,9 @@
  *  21  range inside the string: start plus length, a true sum that never wraps,
  *      at most the string's length?
  *  22  room for the nodes crossed?
+ *  23  file lent at least n bytes long, n being any number of 64 bits?
+ *  24  w from 2 to 12, h from 1 to RCDS_MAX_DISTANCE and n at most
+ *      RCDS_MAX_STRING?
  *
  * Every call of an end after its setup asks 1 to 7 again, of the settings that
  * its state holds and of what it is lent. What a sender's state lacks reads as
@@ -104,6 +107,9 @@ extern "C" {
 
 /* The most children that a node has. */
 #define RCDS_MAX_CHILDREN 32
+
+/* The largest h, the least distance between two cuts, that settings give. */
+#define RCDS_MAX_DISTANCE 32768
 
 /* The largest number that the order of a node's children is sent with. */
 #define RCDS_MAX_TRAIL_NUMBER 4095
@@ -170,7 +176,7 @@ extern "C" {
  *
  * answer       what a call answered.
  *
- * "accepted" for an accepted answer, of a refusal by 1 to 22 the number of the
+ * "accepted" for an accepted answer, of a refusal by 1 to 24 the number of the
  * question and its no, "no such question" for any other. The text is constant
  * and stays valid.
  */
@@ -199,12 +205,14 @@ static inline const char *rcds_question_words(uint64_t answer)
         "19: length or id of the output wrong",
         "20: no room for what is written",
         "21: range past the string's end",
-        "22: no room for the nodes crossed"
+        "22: no room for the nodes crossed",
+        "23: file lent shorter than n",
+        "24: w not 2 to 12, h not 1 to 32,768, or n over 65,536"
     };
 
     if (RCDS_ACCEPTED(answer))
         return words[0];
-    return answer <= 22 ? words[answer] : "no such question";
+    return answer <= 24 ? words[answer] : "no such question";
 }
 
 /*
@@ -363,6 +371,32 @@ static inline uint64_t rcds_crossed_parent(const uint8_t *crossed, size_t k)
 {
     return rcds_row(crossed, 2 * k + 1);
 }
+
+/*
+ * rcds_most_blocks - the most blocks that one cutting can give, and a file that
+ * gives as many.
+ *
+ * n            the length of a string, in bytes.
+ * w            bytes of a window, as for rcds_tree.
+ * h            the least distance between two cuts. A node of level l - 1 is cut
+ *              with the h of level l: nominal / p^l, rounded down.
+ * file         where the file goes, file_len bytes. What it holds before the call
+ *              does not matter.
+ *
+ * Asks 23, then 24, and no other.
+ *
+ * Accepted: RCDS_COUNT of the answer is the larger of 1 and (n - w) / h, rounded
+ * down, and at most RCDS_MAX_CHILDREN; it is 1 where n is below w. No string of n
+ * bytes has more blocks from one cutting by w and h, whatever p and levels are.
+ * The first n bytes of file are zero, and a string of n zero bytes has as many
+ * blocks. The bytes after them are unchanged.
+ *
+ * Refused: file is unchanged.
+ *
+ * One cutting is that of one node into its children, not a whole tree.
+ */
+uint64_t rcds_most_blocks(uint64_t n, uint64_t w, uint64_t h,
+                          uint8_t *file, size_t file_len);
 
 /*
  * Trails.

@@ -3,8 +3,9 @@
 #
 #     tests/hostile.sh [SECONDS [SEED]]
 #
-# Forged and damaged strings, settings, ranges, messages, tables, states and buffer lengths, drawn as tests/conformance draws them, over fresh seeds
-# for so many seconds (60, unless it is told otherwise; building is not counted). Every answer and every lent byte is the reference's.
+# Forged and damaged strings, settings, lengths, distances, ranges, messages, tables, states and buffer lengths, drawn as tests/conformance
+# draws them, over fresh seeds for so many seconds (60, unless it is told otherwise; building is not counted). Every answer and every
+# lent byte is the reference's.
 #
 # Each lent piece stands between pages that may not be touched: in the first run its last byte is the last before such a page, in the
 # second its first byte is the first after one, so that a byte read or written there ends the process. AddressSanitizer would not see it:

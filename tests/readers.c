@@ -1,7 +1,7 @@
 /*
  * readers - what include/rcds.h works out without the library: its readers over
- * entries worked out by hand, and the words of an answer. The status is 1 at
- * the first that differs.
+ * entries worked out by hand, the words of an answer, and numbers that follow
+ * from others. The status is 1 at the first that differs.
  */
 #include "rcds.h"
 
@@ -95,6 +95,24 @@ static void expect_trails(void)
     expect_words(only, "accepted");
 }
 
+/* The largest distance of all fan-outs and levels with the longest nominal
+ * length, which is as long as the longest string: that of fan-out 2, level 1. */
+static void expect_distance(void)
+{
+    uint64_t fan_out, level, distance, largest = 0;
+
+    for (fan_out = 2; fan_out <= 8; fan_out++) {
+        distance = RCDS_MAX_STRING;
+        for (level = 1; level <= 4; level++) {
+            distance /= fan_out;
+            if (distance > largest)
+                largest = distance;
+        }
+    }
+    expect("largest distance", RCDS_MAX_DISTANCE, largest);
+    expect("half of the longest", RCDS_MAX_DISTANCE, RCDS_MAX_STRING / 2);
+}
+
 int main(void)
 {
     char begin[8];
@@ -104,13 +122,14 @@ int main(void)
     expect_crossed();
     expect_strata();
     expect_trails();
-    for (question = 1; question <= 22; question++) {
+    expect_distance();
+    for (question = 1; question <= 24; question++) {
         snprintf(begin, sizeof begin, "%" PRIu64 ": ", question);
         expect_words(question, begin);
     }
     expect_words(0, "accepted");
     expect_words(UINT64_C(1) << 32, "accepted");
-    expect_words(23, "no such question");
+    expect_words(25, "no such question");
     expect_words((UINT64_C(1) << 32) - 1, "no such question");
     return 0;
 }

@@ -2,9 +2,9 @@
 //!
 //!     bench [GROUP...]
 //!
-//! The groups are `tree`, `growth`, `windows`, `crossed`, `trails`, `setups`, `openings`, `strata` and `sessions`;
-//! none stands for all that are built in. A group is built in by the feature of its name (`growth` and `windows` by
-//! `tree`), and all are, unless cargo is told otherwise.
+//! The groups are `tree`, `growth`, `windows`, `crossed`, `most_blocks`, `trails`, `setups`, `openings`, `strata` and
+//! `sessions`; none stands for all that are built in. A group is built in by the feature of its name (`growth` and
+//! `windows` by `tree`), and all are, unless cargo is told otherwise.
 //!
 //! A cost is counted in plain FNV-1a passes, which are timed in turn with the calls. Nothing here
 //! fails because of a time; a wrong answer stops the run.
@@ -12,8 +12,10 @@
 mod clock;
 #[cfg(feature = "crossed")]
 mod crossed;
-#[cfg(any(feature = "tree", feature = "crossed"))]
+#[cfg(any(feature = "tree", feature = "crossed", feature = "most_blocks"))]
 mod cut;
+#[cfg(feature = "most_blocks")]
+mod most_blocks;
 #[cfg(feature = "openings")]
 mod openings;
 mod pass;
@@ -37,6 +39,8 @@ const GROUPS: &[(&str, fn())] = &[
     ("windows", tree::run_windows),
     #[cfg(feature = "crossed")]
     ("crossed", crossed::run),
+    #[cfg(feature = "most_blocks")]
+    ("most_blocks", most_blocks::run),
     #[cfg(feature = "trails")]
     ("trails", trails::run),
     #[cfg(feature = "setups")]

@@ -86,6 +86,10 @@ fn session(depths: &mut Depths, settings: &Settings, string: &[u8], own: &[u8]) 
     let _ = depths.run("rcds_crossed", || {
         calls::crossed(string, &nodes, [0, string.len() as u64], &mut table)
     });
+    let _ = depths.run("rcds_most_blocks", || {
+        let [w, p, _, nominal, _] = settings.0;
+        calls::most_blocks(string.len() as u64, w, nominal / p, &mut table)
+    });
     let sender = depths.run("rcds_sender_setup", || calls::sender(settings, string));
     let receiver = depths.run("rcds_receiver_setup", || calls::receiver(settings, 1, own));
     let (Ok(sender), Ok(mut receiver)) = (sender, receiver) else {

@@ -94,7 +94,7 @@ module _ (test : ℕ → Bool) (h : ℕ) where
           ∙ ap (λ (n : ℕ). spaced h b (passing test n b)) (sym r)
 
   -- A cut at p.
-  cut : (e p : ℕ) → p < e → test p ≡ true → after test h e p ≡ p ∷ after test h e (p + max h 1)
+  pub cut : (e p : ℕ) → p < e → test p ≡ true → after test h e p ≡ p ∷ after test h e (p + max h 1)
   unfolding after passing spaced consIf
   cut e p l passes =
       let k : e - p ≡ suc (e - suc p) = omega arith in
@@ -109,7 +109,7 @@ module _ (test : ℕ → Bool) (h : ℕ) where
           rw r (raised (p + h) (e - suc p) (suc p) (omega arith))
 
   -- No more cuts.
-  none-after : (e a : ℕ) → ((x : ℕ) → a ≤ x → test x ≡ false) → after test h e a ≡ []
+  pub none-after : (e a : ℕ) → ((x : ℕ) → a ≤ x → test x ≡ false) → after test h e a ≡ []
   unfolding after passing spaced
   none-after e a none =
       skip e a (a + e) (omega arith) (λ x low high. none x low)

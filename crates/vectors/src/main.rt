@@ -1,5 +1,6 @@
 // Runs FNV-1a's published vectors and some hundred strings through the proved code and prints what comes out. The stored
 // output is what tests/reference prints; its program reference-vectors says the format.
+mod most_blocks;
 mod openings;
 mod ranges;
 mod strata;
@@ -227,4 +228,5 @@ fn main() {
     openings::lines();
     ranges::lines();
     strata::lines();
+    most_blocks::lines();
 }

@@ -27,6 +27,12 @@ pub enum Difference {
     },
     /// What was written is no message of type 3 to 6 with the query's session.
     NoReply,
+    /// A node that is cut into more blocks than it can have; or, where it must have so many, into fewer.
+    Blocks {
+        node: usize,
+        most: u64,
+        given: u64,
+    },
 }
 
 impl fmt::Display for Difference {
@@ -57,6 +63,9 @@ impl fmt::Display for Difference {
             }
             Difference::NoReply => {
                 write!(f, "what was written is no reply of the query's session")
+            }
+            Difference::Blocks { node, most, given } => {
+                write!(f, "node {node} has {given} blocks, the most are {most}")
             }
         }
     }

@@ -11,6 +11,7 @@ pub mod crossed;
 pub mod failure;
 pub mod lent;
 pub mod messages;
+pub mod most_blocks;
 pub mod openings;
 mod pages;
 pub mod random;

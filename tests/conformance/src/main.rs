@@ -3,10 +3,10 @@
 //!     conformance [GROUP...] [SEED [CASE]]
 //!     conformance [GROUP...] campaign SECONDS SEED
 //!
-//! The groups are `tree`, `crossed`, `trails`, `messages`, `setups`, `replies`, `openings`, `strata` and
-//! `sessions`; none stands for all that are built in. Without a case it runs all of them, the cases of each on
-//! two threads, and prints a line for each call; it stops at the first that differs. With a case, and then
-//! with one group, it runs that case alone.
+//! The groups are `tree`, `crossed`, `most_blocks`, `trails`, `messages`, `setups`, `replies`, `openings`,
+//! `strata` and `sessions`; none stands for all that are built in. Without a case it runs all of them, the cases
+//! of each on two threads, and prints a line for each call; it stops at the first that differs. With a case, and
+//! then with one group, it runs that case alone.
 //!
 //! A campaign draws cases of fresh seeds, the first of which is given, for so many seconds, and stops also
 //! at a call that takes longer than a second (not so with RCDS_LENT=heap, which is for valgrind). The words
@@ -39,6 +39,12 @@ const GROUPS: &[Group] = &[
         name: "crossed",
         count: conformance::crossed::count,
         run: crossed::run,
+    },
+    #[cfg(feature = "most_blocks")]
+    Group {
+        name: "most_blocks",
+        count: conformance::most_blocks::count,
+        run: most_blocks::run,
     },
     #[cfg(feature = "trails")]
     Group {
@@ -108,6 +114,25 @@ mod crossed {
         match case {
             None => run_all(seed, rcds_crossed),
             Some(number) => run_one(seed, number, rcds_crossed),
+        }
+    }
+}
+
+#[cfg(feature = "most_blocks")]
+mod most_blocks {
+    use calls::{rcds_most_blocks, rcds_tree};
+    use conformance::failure::Failure;
+    use conformance::most_blocks::{run_all, run_one, Calls};
+
+    const CALLS: Calls = Calls {
+        most_blocks: rcds_most_blocks,
+        tree: rcds_tree,
+    };
+
+    pub fn run(seed: u64, case: Option<usize>) -> Result<Vec<String>, Failure> {
+        match case {
+            None => run_all(seed, CALLS),
+            Some(number) => run_one(seed, number, CALLS),
         }
     }
 }

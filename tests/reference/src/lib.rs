@@ -11,6 +11,7 @@ pub mod fnv;
 pub mod lent;
 pub mod listing;
 pub mod message;
+pub mod most_blocks;
 pub mod node_table;
 pub mod opening;
 pub mod partition;

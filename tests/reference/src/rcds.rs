@@ -16,7 +16,7 @@ use crate::shingle::shingles;
 use crate::sketch::sketch;
 use crate::trail::{is_only_trail, number_of_order, order_of_number, Pair, MOST_IDS};
 use crate::tree::tree;
-use crate::{cell_table, node_table, sender, shingle_table, strata};
+use crate::{cell_table, most_blocks, node_table, sender, shingle_table, strata};
 
 /// From this number on an answer says "accepted".
 pub const ACCEPTED: u64 = 1 << 32;
@@ -83,6 +83,22 @@ pub fn rcds_crossed(string: &[u8], nodes: &[u8], start: u64, length: u64, table:
     }
     crossed::write(&answer, table);
     ACCEPTED + answer.len() as u64
+}
+
+/// `rcds_most_blocks`: how many blocks one cutting of n bytes can give, and a file that gives as many to
+/// the front of the buffer. Asks 23 and 24, in this order.
+///
+/// "Checks: 23, ..., first of all; 24, ..., second; buffer unchanged by either."
+pub fn rcds_most_blocks(n: u64, w: u64, h: u64, buffer: &mut [u8]) -> u64 {
+    if !questions::buffer_allowed(n, buffer) {
+        return 23;
+    }
+    if !questions::cutting_allowed(n, w, h) {
+        return 24;
+    }
+    // After 23 it is a number of bytes of the buffer.
+    most_blocks::write(n as usize, buffer);
+    ACCEPTED + most_blocks::bound(n, w, h)
 }
 
 /// The bytes of an id.

@@ -5,8 +5,8 @@ use crate::fnv::{block_id, fnv1a};
 use crate::lent::Lent;
 use crate::listing::line;
 use crate::rcds::{
-    rcds_crossed, rcds_sender_setup, rcds_sketch_open, rcds_strata_build, rcds_strata_estimate,
-    rcds_tree, ACCEPTED,
+    rcds_crossed, rcds_most_blocks, rcds_sender_setup, rcds_sketch_open, rcds_strata_build,
+    rcds_strata_estimate, rcds_tree, ACCEPTED,
 };
 use crate::row::number;
 use crate::settings::Settings;
@@ -113,7 +113,30 @@ pub const REFUSED_STRATA: [[u64; 5]; 2] = [[2, 2, 1, 2, 65], [2, 2, 5, 32, 64]];
 /// How many bytes of a table of strata are lent past its 192 cells.
 pub const PAST_THE_STRATA: usize = 8;
 
-/// The bytes of the tables and of the state before each call.
+/// n, w, h and the bytes of the buffer of the files with most blocks.
+pub const MOST: [[u64; 4]; 19] = [
+    [0, 2, 1, 0],
+    [0, 2, 1, 3],
+    [1, 12, 32_768, 1],
+    [5, 2, 2, 5],
+    [6, 2, 2, 9],
+    [100, 3, 7, 100],
+    [100, 3, 7, 99],
+    [66, 2, 2, 66],
+    [68, 2, 2, 70],
+    [65_536, 12, 32_768, 65_537],
+    [65_536, 2, 32_767, 65_536],
+    [65_536, 12, 2, 65_536],
+    [65_537, 2, 1, 65_537],
+    [7, 1, 1, 7],
+    [7, 13, 1, 7],
+    [7, 2, 0, 7],
+    [7, 2, 32_769, 7],
+    [7, 13, 0, 6],
+    [u64::MAX, 2, 1, 7],
+];
+
+/// The bytes of the tables, of the state and of the buffers before each call.
 pub const BEFORE: u8 = 170;
 
 /// One step of the linear congruential generator modulo 2^64.
@@ -404,4 +427,16 @@ pub fn strata_lines() -> Vec<String> {
     }
     lines.extend(REFUSED_STRATA.map(|settings| strata_line(settings, [2, 2], 100)));
     lines
+}
+
+/// The line of one file with most blocks: what is asked, the answer, and the whole buffer.
+fn most_line([n, w, h, room]: [u64; 4]) -> String {
+    let mut buffer = vec![BEFORE; room as usize];
+    let answer = rcds_most_blocks(n, w, h, &mut buffer);
+    line("most", &[n, w, h, room, answer, fnv1a(&buffer)])
+}
+
+/// The lines of all files with most blocks.
+pub fn most_lines() -> Vec<String> {
+    MOST.map(most_line).to_vec()
 }

@@ -2,7 +2,8 @@
 
 use reference::fnv::fnv1a;
 use reference::vectors::{
-    crossed_lines, fnv_lines, setup_lines, strata_lines, string, tree_lines, STRATA_KINDS,
+    crossed_lines, fnv_lines, most_lines, setup_lines, strata_lines, string, tree_lines,
+    STRATA_KINDS,
 };
 
 #[test]
@@ -104,4 +105,34 @@ fn lines_of_strata() {
         );
         assert!(five.iter().all(|words| words[own] != words[theirs]));
     }
+}
+
+#[test]
+fn lines_of_files_with_most_blocks() {
+    let lines = most_lines();
+    assert_eq!(lines.len(), 19);
+    // FNV-1a of no byte is the basis, of one byte 0 the basis times the prime.
+    assert_eq!(lines[0], "most 0 2 1 0 4294967297 14695981039346656037");
+    let one = 14_695_981_039_346_656_037_u64.wrapping_mul(1_099_511_628_211);
+    assert_eq!(lines[2], format!("most 1 12 32768 1 4294967297 {one}"));
+    let buffers: [(usize, &[u8]); 4] = [
+        (1, &[170; 3]),
+        (3, &[0; 5]),
+        (4, &[0, 0, 0, 0, 0, 0, 170, 170, 170]),
+        (17, &[170; 6]),
+    ];
+    for (k, buffer) in buffers {
+        let hash = format!(" {}", fnv1a(buffer));
+        assert!(lines[k].ends_with(&hash), "{}", lines[k]);
+    }
+    let answer = |line: &String| line.split(' ').nth(5).map(str::to_string);
+    let answers: Vec<String> = lines.iter().filter_map(answer).collect();
+    let blocks = [1, 1, 1, 1, 2, 13].map(|count: u64| (1 << 32) + count);
+    let longer = [32, 32, 1, 2, 32].map(|count: u64| (1 << 32) + count);
+    let refused = [24, 24, 24, 24, 24, 23, 23];
+    let expected = [&blocks[..], &[23], &longer, &refused].concat();
+    assert_eq!(
+        answers,
+        expected.iter().map(u64::to_string).collect::<Vec<_>>()
+    );
 }

@@ -52,6 +52,11 @@
 //!    - For each of the settings 2 2 1 2 64, 4 4 3 4096 17, 2 8 4 4096 63: for each length of 100, 4527,
 //!      20000, for each KIND OTHER of 2 2, 4 4, 5 5, 2 3, 4 2, a line.
 //!    - Then two lines that are refused: 2 2 and length 100 with the settings 2 2 1 2 65, 2 2 5 32 64.
+//! 8. `most N W H ROOM ANSWER HASH`, 19 lines. ANSWER is the answer of `rcds_most_blocks` with this n, w and h
+//!    and a buffer of ROOM bytes that are all 170 before the call. HASH is FNV-1a of the whole buffer after it.
+//!    N, W, H and ROOM are 0 2 1 0, 0 2 1 3, 1 12 32768 1, 5 2 2 5, 6 2 2 9, 100 3 7 100, 100 3 7 99,
+//!    66 2 2 66, 68 2 2 70, 65536 12 32768 65537, 65536 2 32767 65536, 65536 12 2 65536, 65537 2 1 65537,
+//!    7 1 1 7, 7 13 1 7, 7 2 0 7, 7 2 32769 7, 7 13 0 6, 18446744073709551615 2 1 7.
 //!
 //! Strings. The random bytes of a string: x starts at 8 × length + kind; for each byte first
 //! x = (x × 6364136223846793005 + 1442695040888963407) mod 2^64, then the byte is x / 2^56.
@@ -64,13 +69,14 @@
 //! - Kind 5: the first 37 random bytes, over and over: byte i is byte i − 37 from 37 on.
 
 use reference::vectors::{
-    crossed_lines, fnv_lines, opening_lines, setup_lines, strata_lines, tree_lines,
+    crossed_lines, fnv_lines, most_lines, opening_lines, setup_lines, strata_lines, tree_lines,
 };
 
 fn main() {
     let lines = fnv_lines().into_iter().chain(tree_lines());
     let lines = lines.chain(setup_lines()).chain(opening_lines());
-    for line in lines.chain(crossed_lines()).chain(strata_lines()) {
+    let lines = lines.chain(crossed_lines()).chain(strata_lines());
+    for line in lines.chain(most_lines()) {
         println!("{line}");
     }
 }
