@@ -1,14 +1,15 @@
 -- How long blocks are: of one cutting, unless it gives only one, at least the distance h, and so of any level of a tree.
 use mathlib.Core.List.{List, [], _∷_, append-nil, flatten}
-use Prim.Native.Nat.{ℕ, zero, suc, _+_, _*_, _-_, _≤_, _<_, max}
+use Prim.Native.Nat.{ℕ, _+_, _*_, _-_, _≤_, _<_, max}
 use native.Mathlib.Nat.{add-zero, le-trans, add-mul, mul-le-mul-left, pow-le-pow-right, le-div-iff-mul-le}
 use native.Mathlib.Omega.{arith}
 use lib.Ieee.Nearest.{div-mono}
-use lib.ListN.{length, getD, length-append, length-take, length-drop}
+use lib.ListN.{length, take, drop, length-append, length-take, length-drop}
 use Rattle.partition.specs.Cuts.{cutsOf}
 use Rattle.partition.specs.Blocks.{blocksFrom, blocksOf}
 use Rattle.partition.specs.Spread.{Spread, none, cut}
 use Rattle.partition.proofs.Placed.{cuts-spread}
+use Rattle.node_table.specs.Laws.{Each, none, both}
 use Rattle.tree.specs.declared.Settings.{Settings}
 use Rattle.tree.specs.Questions.{spacing}
 use Rattle.tree.specs.Tree.{childrenOf}
@@ -17,26 +18,33 @@ use Rattle.tree.specs.Laws.{total}
 use Rattle.tree.proofs.Powers.{power-positive}
 
 -- Each of the blocks is at least h long.
-abbrev pub AllLong : ℕ → List (List ℕ) → Type 0
-AllLong h bs = (k : ℕ) → k < length bs → h ≤ length (getD bs k [])
+abbrev pub Long : ℕ → List (List ℕ) → Type 0
+Long h bs = Each (λ b. h ≤ length b) bs
 
 -- Blocks between cuts that are h apart, and h from either end.
 between-long : {h free to : ℕ} {cs : List ℕ} (bytes : List ℕ) (from : ℕ) → Spread h free cs to → from + h ≤ free → from + h ≤ length bytes
-    → to ≤ length bytes → AllLong h (blocksFrom from cs bytes)
+    → to ≤ length bytes → Long h (blocksFrom from cs bytes)
 unfolding blocksFrom
-between-long bytes from none a b c zero l = simp length-drop (omega arith)
-between-long bytes from none a b c (suc k) l = absurd (omega arith)
-between-long bytes from (cut low high rest) a b c zero l = simp (length-take, length-drop) (omega arith)
-between-long bytes from (cut {c = x} low high rest) a b c (suc k) l = between-long bytes x rest (omega arith) (omega arith) c k (omega arith)
+between-long {h} bytes from none a b c =
+    let last : h ≤ length (drop from bytes) = simp length-drop (omega arith) in
+    both last none
+between-long {h} bytes from (cut {c = x} low high rest) a b c =
+    let first : h ≤ length (take (x - from) (drop from bytes)) = simp (length-take, length-drop) (omega arith) in
+    both first (between-long bytes x rest (omega arith) (omega arith) c)
 
 -- Blocks of one cutting, unless it gives only one, are at least h long.
-pub blocks-long : (w h s : ℕ) (bytes : List ℕ) → 1 < length (blocksOf w h s bytes) → AllLong h (blocksOf w h s bytes)
+pub blocks-long : (w h s : ℕ) (bytes : List ℕ) → 1 < length (blocksOf w h s bytes) → Long h (blocksOf w h s bytes)
 unfolding blocksOf blocksFrom
 blocks-long w h s bytes = at (cutsOf w h s bytes) (cuts-spread w h s bytes)
   where
-    at : (cs : List ℕ) → Spread h h cs (length bytes - w) → 1 < length (blocksFrom 0 cs bytes) → AllLong h (blocksFrom 0 cs bytes)
+    at : (cs : List ℕ) → Spread h h cs (length bytes - w) → 1 < length (blocksFrom 0 cs bytes) → Long h (blocksFrom 0 cs bytes)
     at [] p l = absurd (omega arith)
     at (c ∷ cs) (cut low high rest) l = between-long bytes 0 (cut low high rest) (omega arith) (omega arith) (omega arith)
+
+-- What is at least h long is at least k long for every k up to h.
+longer : {h k : ℕ} {bs : List (List ℕ)} → k ≤ h → Long h bs → Long k bs
+longer less none = none
+longer less (both long rest) = both (le-trans less long) (longer less rest)
 
 module _ (σ : Settings) (g : Granted σ) where
   -- The distance of a level is at least 1, and not more than that of a level above.
@@ -51,27 +59,20 @@ module _ (σ : Settings) (g : Granted σ) where
       div-mono _ _ _ _ (power-positive j some) (power-positive i some) (mul-le-mul-left (σ .nominal) (pow-le-pow-right some h))
 
   -- The children of a node, unless it has only one, are at least as long as the distance of their level or of one below it.
-  pub children-long : {l deep : ℕ} (bytes : List ℕ) → l ≤ deep → 1 < length (childrenOf σ l bytes) → AllLong (spacing σ deep) (childrenOf σ l bytes)
+  pub children-long : {l deep : ℕ} (bytes : List ℕ) → l ≤ deep → 1 < length (childrenOf σ l bytes) → Long (spacing σ deep) (childrenOf σ l bytes)
   unfolding childrenOf
-  children-long bytes h some k i = le-trans (spacing-falls h) (blocks-long _ _ _ bytes some k i)
+  children-long bytes h some = longer (spacing-falls h) (blocks-long _ _ _ bytes some)
 
 -- A count f that gives each block no more than h goes into it, or 1, gives blocks together no more than h goes into them joined, or 1: unless
 -- there is only one, each is at least h long.
 module _ (f : List ℕ → ℕ) (h : ℕ) (fits : (b : List ℕ) → f b * h ≤ max h (length b)) where
-  long-total : (bs : List (List ℕ)) → AllLong h bs → total f bs * h ≤ length (flatten bs)
+  long-total : (bs : List (List ℕ)) → Long h bs → total f bs * h ≤ length (flatten bs)
   unfolding total flatten
-  long-total [] long = omega arith
-  long-total (b ∷ bs) long =
-      omega (
-        arith,
-        add-mul (f b) (total f bs) h,
-        fits b,
-        long 0 (omega arith),
-        long-total bs (λ k l. long (suc k) (omega arith)),
-        length-append b (flatten bs),
-      )
+  long-total [] none = omega arith
+  long-total (b ∷ bs) (both long rest) =
+      omega (arith, add-mul (f b) (total f bs) h, fits b, long-total bs rest, length-append b (flatten bs))
 
-  pub joined-total : (bs : List (List ℕ)) → (1 < length bs → AllLong h bs) → total f bs * h ≤ max h (length (flatten bs))
+  pub joined-total : (bs : List (List ℕ)) → (1 < length bs → Long h bs) → total f bs * h ≤ max h (length (flatten bs))
   unfolding total flatten
   joined-total [] long = omega arith
   joined-total (b ∷ []) long = rw (append-nil, add-zero) (fits b)

@@ -3,7 +3,7 @@ use mathlib.Core.Bool.{Bool, true, false}
 use mathlib.Core.Path.{_≡_, refl, sym, ap, _∙_}
 use Prim.Native.Nat.{ℕ, zero, suc, _+_, _-_, _/_, _≤_, _<_, max, min}
 use native.Mathlib.Decide.{decLe}
-use native.Mathlib.Nat.{div-eq-of-lt, div-eq-sub-div, zero-mod}
+use native.Mathlib.Nat.{sub-zero, zero-sub, suc-sub-suc, div-eq-of-lt, div-eq-sub-div, zero-mod}
 use native.Mathlib.Omega.{arith}
 use lib.ListN.{length, take, drop, length-take, length-replicate}
 use Rattle.partition.specs.Cuts.{numberFrom, windowAt, valueAt, candidate, cutsOf}
@@ -17,9 +17,9 @@ pub length-zeros : (n : ℕ) → length (zeroFile n) ≡ n
 length-zeros n = length-replicate {A = ℕ} n 0
 
 drop-zeros : (i n : ℕ) → drop i (zeroFile n) ≡ zeroFile (n - i)
-drop-zeros zero n = ap zeroFile (let e : n ≡ n - 0 = omega arith in e)
-drop-zeros (suc i) zero = ap zeroFile (let e : 0 ≡ 0 - suc i = omega arith in e)
-drop-zeros (suc i) (suc n) = drop-zeros i n ∙ ap zeroFile (let e : n - i ≡ suc n - suc i = omega arith in e)
+drop-zeros zero n = ap zeroFile (sym (sub-zero n))
+drop-zeros (suc i) zero = ap zeroFile (sym (zero-sub (suc i)))
+drop-zeros (suc i) (suc n) = drop-zeros i n ∙ ap zeroFile (sym (suc-sub-suc n i))
 
 number-zeros : (w n : ℕ) → numberFrom 0 (take w (zeroFile n)) ≡ 0
 unfolding numberFrom

@@ -7,6 +7,7 @@
 pub mod campaign;
 pub mod clock;
 pub mod content;
+mod counts;
 pub mod crossed;
 pub mod failure;
 pub mod lent;

@@ -5,6 +5,7 @@ use super::compare::{compare, Calls, Done};
 use super::cutting::{Cut, Cutting, Text};
 use super::numbers::{Numbers, LONGEST, MOST_DISTANCE};
 use crate::content::KINDS;
+use crate::counts::{counted, of_families};
 use crate::failure::Failure;
 use crate::two_threads::in_order;
 use reference::rcds::ACCEPTED;
@@ -192,19 +193,8 @@ impl CutReport {
     }
 }
 
-/// Counts and what they are of, parted by commas.
-fn counted<K>(counts: &BTreeMap<K, usize>, name: impl Fn(&K) -> String) -> String {
-    let each = counts
-        .iter()
-        .map(|(key, count)| format!("{} {count}", name(key)));
-    each.collect::<Vec<_>>().join(", ")
-}
-
 impl fmt::Display for Report {
     fn fmt(&self, f: &mut fmt::Formatter) -> fmt::Result {
-        let families = self.families.iter();
-        let families = families
-            .map(|(family, [accepted, refused])| format!("{family:?} {accepted} and {refused}"));
         write!(
             f,
             "{} cases as the reference has them: accepted {} (by their blocks {}; {} with room for more; {}; {} without a buffer); refused {} ({} with one byte too few, {} where 24 has a no too; by 24 for one reason alone: {}; {} without a buffer); {}; accepted and refused of each family: {}",
@@ -220,7 +210,7 @@ impl fmt::Display for Report {
             counted(&self.alone, |name| name.to_string()),
             self.null[1],
             self.cut,
-            families.collect::<Vec<_>>().join(", "),
+            of_families(&self.families),
         )
     }
 }

@@ -3,6 +3,7 @@
 use super::cases::{case, families, is_of_both, Case, Family, Tables};
 use super::compare::{compare, Built, Calls, Done, Estimated, Outcome, Refused};
 use super::zeros::ZERO_BITS;
+use crate::counts::{counted, of_families};
 use crate::failure::Failure;
 use crate::two_threads::in_order;
 use reference::opening::{Closed, NotSingle, MOST_SHINGLES};
@@ -289,19 +290,8 @@ impl EstimateReport {
     }
 }
 
-/// Counts and what they are of, parted by commas.
-fn counted<K>(counts: &BTreeMap<K, usize>, name: impl Fn(&K) -> String) -> String {
-    let each = counts
-        .iter()
-        .map(|(key, count)| format!("{} {count}", name(key)));
-    each.collect::<Vec<_>>().join(", ")
-}
-
 impl fmt::Display for Asked {
     fn fmt(&self, f: &mut fmt::Formatter) -> fmt::Result {
-        let families = self.families.iter();
-        let families = families
-            .map(|(family, [accepted, refused])| format!("{family:?} {accepted} and {refused}"));
         write!(
             f,
             "{} with a sender's state, {} with a longer one, {} with a receiver's; refused {}, with {} pairs of questions that had a no; one table of strata too short and nothing else amiss {:?}; {} pieces as null; {} with two pieces in one memory; accepted and refused of each family: {}",
@@ -313,7 +303,7 @@ impl fmt::Display for Asked {
             self.strata_alone,
             self.null.len(),
             self.shared,
-            families.collect::<Vec<_>>().join(", "),
+            of_families(&self.families),
         )
     }
 }
