@@ -49,7 +49,7 @@
  *  11  sender: message is a query, type 1 or 2? Receiver: message is a reply,
  *      type 3 to 6, of this session, to the outstanding query: an opening, or a
  *      node reply of its level and id?
- *  12  opening: its rule and settings are the own?
+ *  12  opening: its rule is RCDS_RULE, and its settings are the own?
  *  13  announced length at most RCDS_MAX_STRING and at most the output lent now?
  *  14  sketch opens?
  *  15  fewer than RCDS_MAX_NODES node replies taken before?
@@ -70,7 +70,7 @@
  *  21  range inside the string: start plus length, a true sum that never wraps,
  *      at most the string's length?
  *  22  room for the nodes crossed?
- *  23  file lent at least n bytes long, n being any number of 64 bits?
+ *  23  is asked no more: no call answers it.
  *  24  w from 2 to 12, h from 1 to RCDS_MAX_DISTANCE and n at most
  *      RCDS_MAX_STRING?
  *
@@ -107,6 +107,12 @@ extern "C" {
 
 /* The most children that a node has. */
 #define RCDS_MAX_CHILDREN 32
+
+/*
+ * The number of the rule by which strings are cut here, which an opening carries.
+ * Ends that cut by another rule meet 12: both ends are changed together.
+ */
+#define RCDS_RULE 2
 
 /* The largest h, the least distance between two cuts, that settings give. */
 #define RCDS_MAX_DISTANCE 32768
@@ -206,7 +212,7 @@ static inline const char *rcds_question_words(uint64_t answer)
         "20: no room for what is written",
         "21: range past the string's end",
         "22: no room for the nodes crossed",
-        "23: file lent shorter than n",
+        "23: asked no more",
         "24: w not 2 to 12, h not 1 to 32,768, or n over 65,536"
     };
 
@@ -229,8 +235,11 @@ static inline const char *rcds_question_words(uint64_t answer)
  * nodes        the node table, nodes_len bytes. What it holds before the call
  *              does not matter.
  *
- * Two trees can be compared only if they were cut with the same w, p, levels
- * and nominal.
+ * With h = nominal / p^l, rounded down, a cut of level l comes where the value of
+ * a window is smaller than each of the h values before it and not greater than
+ * the h after it. So inside a run of equal bytes there is none. Two trees can be
+ * compared only if they were cut with the same w, p, levels and nominal, by the
+ * same RCDS_RULE.
  *
  * Asks 1, 2, 3, 4, 6, 7, 8.
  *
@@ -248,8 +257,9 @@ static inline const char *rcds_question_words(uint64_t answer)
  * it is zero.
  *
  * The call ends for every string. How long it takes was measured and is not
- * proved: at most 23 plain FNV-1a passes over the string for the slowest
- * settings and strings of 65,536 bytes found.
+ * proved: at most 27 plain FNV-1a passes over the string for the slowest
+ * settings and files of 65,536 bytes found, 59 for strings that were made to be
+ * slow.
  */
 uint64_t rcds_tree(uint64_t w, uint64_t p, uint64_t levels, uint64_t nominal,
                    const uint8_t *string, size_t string_len,
@@ -373,30 +383,23 @@ static inline uint64_t rcds_crossed_parent(const uint8_t *crossed, size_t k)
 }
 
 /*
- * rcds_most_blocks - the most blocks that one cutting can give, and a file that
- * gives as many.
+ * rcds_most_blocks - the most blocks that one cutting can give.
  *
  * n            the length of a string, in bytes.
  * w            bytes of a window, as for rcds_tree.
  * h            the least distance between two cuts. A node of level l - 1 is cut
  *              with the h of level l: nominal / p^l, rounded down.
- * file         where the file goes, file_len bytes. What it holds before the call
- *              does not matter.
  *
- * Asks 23, then 24, and no other.
+ * Asks 24, and no other.
  *
  * Accepted: RCDS_COUNT of the answer is the larger of 1 and (n - w) / h, rounded
  * down, and at most RCDS_MAX_CHILDREN; it is 1 where n is below w. No string of n
- * bytes has more blocks from one cutting by w and h, whatever p and levels are.
- * The first n bytes of file are zero, and a string of n zero bytes has as many
- * blocks. The bytes after them are unchanged.
- *
- * Refused: file is unchanged.
+ * bytes has more blocks from one cutting by w and h, whatever p and levels are. A
+ * string of equal bytes has one block.
  *
  * One cutting is that of one node into its children, not a whole tree.
  */
-uint64_t rcds_most_blocks(uint64_t n, uint64_t w, uint64_t h,
-                          uint8_t *file, size_t file_len);
+uint64_t rcds_most_blocks(uint64_t n, uint64_t w, uint64_t h);
 
 /*
  * Trails.

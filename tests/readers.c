@@ -95,6 +95,14 @@ static void expect_trails(void)
     expect_words(only, "accepted");
 }
 
+/* The rule that an opening carries; and the call that answers the most blocks,
+ * which is lent nothing. It is not made: the size of its answer is asked. */
+static void expect_rule(void)
+{
+    expect("rule", RCDS_RULE, 2);
+    expect("bytes of an answer", sizeof rcds_most_blocks(9, 2, 2), 8);
+}
+
 /* The largest distance of all fan-outs and levels with the longest nominal
  * length, which is as long as the longest string: that of fan-out 2, level 1. */
 static void expect_distance(void)
@@ -122,6 +130,7 @@ int main(void)
     expect_crossed();
     expect_strata();
     expect_trails();
+    expect_rule();
     expect_distance();
     for (question = 1; question <= 24; question++) {
         snprintf(begin, sizeof begin, "%" PRIu64 ": ", question);

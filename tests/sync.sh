@@ -20,8 +20,11 @@ expect() {
 
 echo "-- two versions of a file"
 expect 0 $file $own
-echo "-- an empty own file: the sketch does not open"
-expect 1 $file /dev/null
+echo "-- an empty own file"
+expect 0 $file /dev/null
+echo "-- an own file with more other blocks than the sketch has cells: it does not open"
+seq 12000 > target/numbers.txt
+expect 1 $file target/numbers.txt
 echo "-- a file that is too long"
 head -c 65537 /dev/zero > target/long.bin
 expect 2 target/long.bin $own

@@ -12,19 +12,20 @@ use reference::vectors::string;
 use std::hint::black_box;
 
 /// The contents of the table's columns, and their kinds as `vectors` numbers them.
-const CONTENTS: [(&str, u64); 4] = [("zeros", 0), ("sevens", 1), ("samples", 4), ("random", 2)];
+const CONTENTS: [(&str, u64); 4] = [("zeros", 0), ("ruler", 6), ("samples", 4), ("random", 2)];
 
 /// w, p, L, M, and the length in KiB: the guide's three settings, and settings of more nodes.
-const TREES: [([u64; 4], usize); 9] = [
-    ([8, 8, 1, 1_024], 4),
-    ([4, 8, 2, 4_096], 16),
-    ([8, 7, 3, 32_768], 64),
+const TREES: [([u64; 4], usize); 10] = [
+    ([12, 8, 1, 1_024], 4),
+    ([12, 7, 2, 5_120], 16),
+    ([12, 8, 3, 32_768], 64),
     ([2, 2, 4, 16], 64),
     ([2, 4, 4, 16_384], 64),
     ([2, 8, 3, 4_096], 64),
     ([2, 7, 4, 65_536], 64),
     ([2, 8, 4, 65_536], 64),
-    ([2, 8, 4, 16_384], 16),
+    ([2, 8, 4, 4_096], 7),
+    ([2, 8, 4, 4_096], 16),
 ];
 
 /// How many nodes the library's tree has, or the number of the question that refuses it, in words.
@@ -40,19 +41,14 @@ fn nodes(settings: &Settings, most: u64, string: &[u8]) -> String {
     (answer - ACCEPTED).to_string()
 }
 
-/// Prints what a call for 64 KiB costs.
+/// Prints what a call costs.
 fn print_cost() {
-    let mut file = vec![170; 65_536];
     let call = cost(|| {
-        // The file is there in full.
-        let answer =
-            unsafe { rcds_most_blocks(65_536, 2, 512, black_box(file.as_mut_ptr()), file.len()) };
+        // Nothing is lent.
+        let answer = unsafe { rcds_most_blocks(black_box(65_536), 2, 512) };
         assert_eq!(black_box(answer), ACCEPTED + 32);
     });
-    println!(
-        "Writing the file of 64 KiB takes {:.1} µs, {:.3} FNV-1a passes over as many bytes.",
-        call.microseconds, call.passes
-    );
+    println!("A call takes {:.1} ns.", 1e3 * call.microseconds);
 }
 
 /// Measures and prints.

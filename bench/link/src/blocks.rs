@@ -5,15 +5,16 @@ use crate::pairs::SIZES;
 use crate::strings::{content, Random, CONTENTS};
 
 /// w, p, L and M: the distance of cuts at the last level is M / p^L.
-const SETTINGS: [[u64; 4]; 8] = [
-    [8, 8, 1, 1_024],
-    [8, 8, 1, 4_096],
+const SETTINGS: [[u64; 4]; 9] = [
     [8, 2, 1, 4_096],
+    [8, 8, 1, 1_024],
+    [12, 8, 1, 1_024],
     [4, 8, 2, 4_096],
-    [4, 8, 2, 16_384],
+    [12, 7, 2, 5_120],
     [4, 4, 3, 16_384],
     [8, 7, 3, 32_768],
-    [2, 7, 3, 32_768],
+    [2, 8, 3, 32_768],
+    [12, 8, 3, 32_768],
 ];
 
 /// Shingles, blocks of the last level, and the longest of them; the question where it is refused.

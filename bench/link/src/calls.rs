@@ -275,9 +275,9 @@ pub fn crossed(
     })
 }
 
-/// The most blocks of so many bytes from one cutting, and as many zero bytes.
-pub fn most_blocks(length: u64, w: u64, h: u64, file: &mut [u8]) -> Result<usize, u64> {
-    answered(unsafe { ::calls::rcds_most_blocks(length, w, h, file.as_mut_ptr(), file.len()) })
+/// The most blocks of so many bytes from one cutting.
+pub fn most_blocks(length: u64, w: u64, h: u64) -> Result<usize, u64> {
+    answered(unsafe { ::calls::rcds_most_blocks(length, w, h) })
 }
 
 /// The type of a message.

@@ -5,6 +5,7 @@
 //! - `pairs`: bytes of whole sessions over pairs of strings, beside rsync and rdiff where they are
 //!   installed.
 //! - `settings`: how many shingles a change makes differ, and what other settings cost.
+//! - `search`: which settings of a grid cost least; it takes some minutes.
 //! - `blocks`: what settings make of a string.
 //! - `widths`: which sketch widths open how many differences.
 //! - `strata`: how rough the estimate of the strata is, which width to choose by it, and what a table of
@@ -17,6 +18,7 @@ mod blocks;
 mod calls;
 mod others;
 mod pairs;
+mod search;
 mod session;
 mod settings;
 mod stack;
@@ -24,9 +26,10 @@ mod strata;
 mod strings;
 mod widths;
 
-const GROUPS: [(&str, fn()); 6] = [
+const GROUPS: [(&str, fn()); 7] = [
     ("pairs", pairs::run),
     ("settings", settings::run),
+    ("search", search::run),
     ("blocks", blocks::run),
     ("widths", widths::run),
     ("strata", strata::run),

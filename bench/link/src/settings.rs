@@ -5,61 +5,72 @@ use crate::calls::{sender, Settings};
 use crate::pairs::{outcome, SIZES};
 use crate::session::{run as session, Session};
 use crate::strings::{pair, CHANGES, CONTENTS};
+use std::collections::HashSet;
 
 /// w, p, L, M and q for strings of about so many KiB.
 pub fn recommended(size: usize) -> Settings {
     Settings(match size {
-        4 => [8, 8, 1, 1_024, 7],
-        16 => [4, 8, 2, 4_096, 23],
-        _ => [8, 7, 3, 32_768, 43],
+        4 => [12, 8, 1, 1_024, 7],
+        16 => [12, 7, 2, 5_120, 23],
+        _ => [12, 8, 3, 32_768, 43],
     })
 }
 
 /// Widths that are tried with the recommended w, p, L and M.
 const WIDTHS: [u64; 9] = [5, 7, 11, 17, 23, 33, 43, 53, 61];
 
-/// Other w, p, L and M that are tried with the recommended width.
-const OTHERS: [[u64; 4]; 8] = [
+/// Other w, p, L and M that are tried with the recommended width: those of other sizes, those that were recommended by rule 1, and some
+/// of few values.
+const OTHERS: [[u64; 4]; 9] = [
     [4, 4, 1, 1_024],
+    [8, 8, 1, 1_024],
+    [12, 8, 1, 1_024],
     [4, 4, 2, 4_096],
     [4, 8, 2, 4_096],
-    [8, 8, 2, 4_096],
-    [4, 4, 3, 16_384],
-    [8, 8, 2, 12_288],
-    [4, 6, 3, 8_192],
+    [12, 7, 2, 5_120],
+    [12, 8, 2, 16_384],
     [8, 7, 3, 32_768],
+    [12, 8, 3, 32_768],
 ];
 
 /// The changes that are tried: neither equal nor different strings.
-const TRIED: std::ops::Range<usize> = 1..7;
+pub const TRIED: std::ops::Range<usize> = 1..7;
 
 /// Seeds of the pairs, others than those of the group `pairs`.
 const SEEDS: std::ops::Range<u64> = 100..103;
 
-type Pair = (Vec<u8>, Vec<u8>);
+pub type Pair = (Vec<u8>, Vec<u8>);
 
 /// The pairs of a size and a change, of every content.
-fn pairs_of(size: usize, change: &str) -> Vec<Pair> {
+pub fn pairs_of(size: usize, change: &str) -> Vec<Pair> {
     CONTENTS
         .iter()
         .flat_map(|content| SEEDS.map(move |seed| pair(content, change, size * 1_024, seed)))
         .collect()
 }
 
-/// The entries of a shingle table up to its first count 0.
-pub fn entries(table: &[u8]) -> Vec<&[u8]> {
-    table
-        .chunks(24)
-        .take_while(|entry| entry[22..] != [0, 0])
-        .collect()
+/// A row of eight bytes as a number.
+fn number(row: &[u8]) -> u64 {
+    row.iter().fold(0, |sum, byte| sum << 8 | u64::from(*byte))
 }
 
-/// How many shingles one of two strings has and the other has not.
-fn differences(settings: &Settings, (string, own): &Pair) -> Option<usize> {
+/// The list of a shingle table, up to its first count 0.
+pub fn list(table: &[u8]) -> Vec<[u64; 3]> {
+    let entries = table.chunks(24).take_while(|entry| entry[22..] != [0, 0]);
+    let shingle = |entry: &[u8]| [0, 8, 16].map(|at| number(&entry[at..at + 8]));
+    entries.map(shingle).collect()
+}
+
+/// The shingles that the sender's string has and the own has not, and the reverse; nothing where a tree is refused.
+pub fn differences(settings: &Settings, (string, own): &Pair) -> Option<[Vec<[u64; 3]>; 2]> {
     let (a, b) = (sender(settings, string).ok()?, sender(settings, own).ok()?);
-    let (a, b) = (entries(&a.shingles), entries(&b.shingles));
-    let lacking = |x: &[&[u8]], y: &[&[u8]]| x.iter().filter(|entry| !y.contains(entry)).count();
-    Some(lacking(&a, &b) + lacking(&b, &a))
+    let (a, b) = (list(&a.shingles), list(&b.shingles));
+    let lacking = |x: &[[u64; 3]], y: &[[u64; 3]]| {
+        let y: HashSet<&[u64; 3]> = y.iter().collect();
+        let lacks = |shingle: &&[u64; 3]| !y.contains(shingle);
+        x.iter().filter(lacks).copied().collect()
+    };
+    Some([lacking(&a, &b), lacking(&b, &a)])
 }
 
 /// How many shingles each change makes differ, with the recommended settings.
@@ -77,6 +88,7 @@ fn print_differences() {
                 let mut counts: Vec<usize> = pairs_of(size, change)
                     .iter()
                     .filter_map(|pair| differences(&settings, pair))
+                    .map(|[new, gone]| new.len() + gone.len())
                     .collect();
                 counts.sort_unstable();
                 let at = |place: usize| counts.get(place).map_or(0, |count| *count);

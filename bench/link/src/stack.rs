@@ -1,6 +1,7 @@
 //! How deep each call's stack goes: a thread runs it on a painted stack.
 
 use crate::calls::{self, End, Settings, MAX_STRING, QUERY_BYTES, REPLY_BYTES, STRATA_BYTES};
+use crate::settings::recommended;
 use crate::strings::{content, pair, Random, CHANGES, CONTENTS};
 use std::ffi::{c_int, c_void};
 
@@ -88,7 +89,7 @@ fn session(depths: &mut Depths, settings: &Settings, string: &[u8], own: &[u8]) 
     });
     let _ = depths.run("rcds_most_blocks", || {
         let [w, p, _, nominal, _] = settings.0;
-        calls::most_blocks(string.len() as u64, w, nominal / p, &mut table)
+        calls::most_blocks(string.len() as u64, w, nominal / p)
     });
     let sender = depths.run("rcds_sender_setup", || calls::sender(settings, string));
     let receiver = depths.run("rcds_receiver_setup", || calls::receiver(settings, 1, own));
@@ -165,8 +166,8 @@ fn wide(depths: &mut Depths) {
             let at = 40 * random.below(6);
             string.extend_from_slice(&kinds[at..at + 40]);
         }
-        session(depths, &Settings([4, 2, 1, 20, 64]), &string, &kinds);
-        session(depths, &Settings([4, 2, 2, 200, 64]), &string, &kinds);
+        session(depths, &Settings([12, 8, 1, 80, 64]), &string, &kinds);
+        session(depths, &Settings([12, 8, 2, 800, 64]), &string, &kinds);
     }
 }
 
@@ -174,8 +175,8 @@ fn wide(depths: &mut Depths) {
 pub fn run() {
     let mut depths = Depths(Vec::new());
     for settings in [
-        Settings([8, 8, 1, 1_024, 7]),
-        Settings([8, 7, 3, 32_768, 43]),
+        recommended(4),
+        recommended(64),
         Settings([12, 7, 4, 22_000, 64]),
         Settings([12, 8, 4, 65_536, 64]),
     ] {

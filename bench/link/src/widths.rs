@@ -5,8 +5,8 @@ use crate::session::run as session;
 use crate::settings::recommended;
 use crate::strings::{pair, Random};
 
-const WIDTHS: [u64; 18] = [
-    5, 7, 9, 11, 13, 15, 16, 17, 19, 23, 31, 32, 33, 43, 53, 61, 63, 64,
+const WIDTHS: [u64; 20] = [
+    5, 7, 9, 11, 13, 15, 16, 17, 19, 23, 27, 31, 32, 33, 35, 43, 53, 61, 63, 64,
 ];
 
 /// How many shingles differ, half of them at each end.
@@ -92,6 +92,18 @@ fn opens(width: u64, differences: usize, random: &mut Random) -> (bool, bool) {
     (answer.is_ok(), answer.is_ok() && list == table(&theirs))
 }
 
+/// Sketches over random differences that open, and those that open to another list than the sender's.
+fn of_random(width: u64, differences: usize) -> (u64, u64) {
+    let mut random = Random::new(width * 1_000 + differences as u64);
+    let (mut opened, mut wrong) = (0, 0);
+    for _ in 0..TRIALS {
+        let (open, right) = opens(width, differences, &mut random);
+        opened += u64::from(open);
+        wrong += u64::from(open && !right);
+    }
+    (opened, wrong)
+}
+
 /// One pair's count goes from 1 to `count` and so many other pairs are new: sketches that open, and
 /// those that open to another list than the sender's.
 fn counted(width: u64, count: u64, new: usize, random: &mut Random) -> (u64, u64) {
@@ -129,6 +141,34 @@ fn print_counted() {
     }
 }
 
+/// The levels at which a pair stands twice: a first child that is not cut has its parent's pair.
+const TWICE: [[u64; 2]; 6] = [[0, 1], [0, 2], [0, 3], [1, 2], [1, 3], [2, 3]];
+
+/// How many sketches open where one pair is new at two levels.
+fn twice(width: u64, levels: [u64; 2]) -> usize {
+    let mut random = Random::new(2_000_000 + width * 1_000 + 10 * levels[0] + levels[1]);
+    let opens = |_: &u64| {
+        let id = random.next();
+        let theirs = cells(width, &levels.map(|level| [0, id, level * 65_536 + 1]));
+        sketch_open(LEVELS, width, &theirs, &cells(width, &[]), &mut table(&[])).is_ok()
+    };
+    (0..TRIALS).filter(opens).count()
+}
+
+/// Prints which widths open a pair that is new at two levels.
+fn print_twice() {
+    println!();
+    println!("A first pair is new at two levels; sketches of {TRIALS} that open, by the levels.");
+    println!();
+    let heads = TWICE.map(|[a, b]| format!("{a} and {b}"));
+    println!("| q | {} |", heads.join(" | "));
+    println!("|---:|{}", "---:|".repeat(TWICE.len()));
+    for width in WIDTHS {
+        let counts = TWICE.map(|levels| twice(width, levels).to_string());
+        println!("| {width} | {} |", counts.join(" | "));
+    }
+}
+
 /// Measures and prints.
 pub fn run() {
     let mut wrong = 0;
@@ -146,13 +186,8 @@ pub fn run() {
         let counts: Vec<String> = DIFFERENCES
             .iter()
             .map(|differences| {
-                let mut random = Random::new(width * 1_000 + *differences as u64);
-                let mut opened = 0;
-                for _ in 0..TRIALS {
-                    let (open, right) = opens(width, *differences, &mut random);
-                    opened += u64::from(open);
-                    wrong += u64::from(open && !right);
-                }
+                let (opened, other) = of_random(width, *differences);
+                wrong += other;
                 opened.to_string()
             })
             .collect();
@@ -171,4 +206,5 @@ pub fn run() {
     println!();
     println!("Opened to another list than the sender's: {wrong}.");
     print_counted();
+    print_twice();
 }

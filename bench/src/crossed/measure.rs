@@ -5,7 +5,7 @@ use crate::pass::{cost, Cost};
 use calls::rcds_crossed;
 use reference::rcds::ACCEPTED;
 use reference::settings::Settings;
-use reference::vectors::string;
+use reference::vectors::{string, FULL_RULER};
 use std::hint::black_box;
 
 /// w, p, L, M, and the string: its content with its kind as `vectors` numbers it, and its length.
@@ -13,9 +13,9 @@ pub type Tree = ([u64; 4], (&'static str, u64), usize);
 
 /// A full tree, and the two of most nodes among those of 64 KiB whose setups are measured.
 pub const TREES: [Tree; 3] = [
-    ([2, 8, 4, 4_096], ("zeros", 0), 4_527),
+    ([2, 8, 4, 4_096], ("ruler", 6), FULL_RULER),
     ([12, 7, 4, 22_000], ("random", 2), 65_536),
-    ([2, 8, 4, 65_536], ("random", 2), 65_536),
+    ([12, 8, 4, 65_536], ("random", 2), 65_536),
 ];
 
 /// What one range cost.

@@ -7,7 +7,7 @@ use reference::message::{encode, Body, Message};
 use reference::receiver::{Pending, Receiver, Stage};
 use reference::receiver_state;
 use reference::settings::Settings;
-use reference::vectors::string;
+use reference::vectors::{ruler, string, FULL_RULER, RULED};
 use std::hint::black_box;
 
 /// w, p, L, M, and the string: its content with its kind as `vectors` numbers it.
@@ -16,12 +16,12 @@ pub type Session = ([u64; 4], (&'static str, u64));
 const RANDOM: (&str, u64) = ("random", 2);
 const SAMPLES: (&str, u64) = ("samples", 4);
 
-/// Settings whose cutting is dearest, and settings with which a drive's files may be cut.
+/// Settings whose cutting is dearest, and those that the guide recommends.
 pub const SESSIONS: [Session; 4] = [
     ([12, 8, 4, 65_536], RANDOM),
     ([12, 8, 4, 65_536], SAMPLES),
-    ([4, 4, 4, 65_536], SAMPLES),
-    ([8, 6, 3, 32_768], RANDOM),
+    ([12, 8, 3, 32_768], RANDOM),
+    ([12, 8, 3, 32_768], SAMPLES),
 ];
 
 /// The bytes of both strings.
@@ -154,8 +154,8 @@ fn whole(settings: &Settings, senders: &[u8], own: &[u8], steps: usize) {
 /// Taking an empty literal that leaves a node which the receiver has not, over a table of 4,096 nodes,
 /// and over one of none: one look-up that misses, and what else the call does.
 pub fn look_up() -> [Cost; 2] {
-    let settings = settings([2, 8, 4, 4_096]);
-    let mut end = End::receiver(&[0; 4_527]);
+    let settings = RULED;
+    let mut end = End::receiver(&ruler(FULL_RULER));
     let answer = set_up_receiver(&settings, &mut end);
     assert_eq!(answer, (1 << 32) + 4_096, "nodes");
     let pending = |id: u64| Pending { level: 1, id };

@@ -5,31 +5,33 @@ use calls::rcds_sender_setup;
 use reference::rcds::ACCEPTED;
 use reference::settings::Settings;
 use reference::shingle_table;
-use reference::vectors::string;
+use reference::vectors::{string, FULL_RULER};
 use std::hint::black_box;
 
 /// w, p, L, M, and the string: its content with its kind as `vectors` numbers it, and its length.
 pub type Setup = ([u64; 4], (&'static str, u64), usize);
 
 const ZEROS: (&str, u64) = ("zeros", 0);
+const RULER: (&str, u64) = ("ruler", 6);
+const SEVENS: (&str, u64) = ("sevens", 1);
 const RANDOM: (&str, u64) = ("random", 2);
 const SAMPLES: (&str, u64) = ("samples", 4);
 
-/// Strings of 64 KiB with the settings whose cutting is dearest, and strings that have about 4,096
-/// nodes.
+/// Strings of 64 KiB with the settings whose cutting is dearest, strings that have about 4,096 nodes, and strings with settings that the
+/// guide recommends.
 pub const SETUPS: [Setup; 12] = [
     ([12, 8, 4, 65_536], ZEROS, 65_536),
     ([12, 8, 4, 65_536], RANDOM, 65_536),
     ([12, 8, 4, 65_536], SAMPLES, 65_536),
-    ([12, 2, 4, 16_384], RANDOM, 65_536),
-    ([2, 8, 4, 65_536], RANDOM, 65_536),
-    ([4, 4, 4, 65_536], SAMPLES, 65_536),
+    ([12, 2, 4, 1_024], RANDOM, 65_536),
+    ([12, 2, 4, 16], SEVENS, 65_536),
+    ([12, 8, 3, 32_768], RANDOM, 65_536),
     ([12, 7, 4, 22_000], RANDOM, 65_536),
     ([8, 8, 4, 8_192], RANDOM, 20_200),
-    ([2, 8, 4, 4_096], ZEROS, 4_527),
+    ([2, 8, 4, 4_096], RULER, FULL_RULER),
     ([12, 8, 4, 4_096], RANDOM, 17_500),
     ([12, 8, 4, 4_096], ZEROS, 65_536),
-    ([4, 4, 3, 4_096], SAMPLES, 16_384),
+    ([12, 7, 2, 5_120], SAMPLES, 16_384),
 ];
 
 /// What one setup cost.

@@ -5,25 +5,25 @@ use crate::sessions::ends::End;
 use reference::settings::Settings;
 use reference::shingle::Shingle;
 use reference::strata::TABLE_BYTES;
-use reference::vectors::string;
+use reference::vectors::{string, FULL_RULER};
 
 /// w, p, L, M, and the string: its content with its kind as `vectors` numbers it, and its length.
 pub type List = ([u64; 4], (&'static str, u64), usize);
 
-const ZEROS: (&str, u64) = ("zeros", 0);
+const RULER: (&str, u64) = ("ruler", 6);
 const RANDOM: (&str, u64) = ("random", 2);
 
 /// A string of 4,096 shingles.
-const FULL: List = ([8, 8, 4, 8_192], RANDOM, 20_369);
+const FULL: List = ([8, 8, 4, 8_192], RANDOM, 21_011);
 
 /// 4,096 nodes with few shingles; the settings that the guide recommends; strings of many shingles; and the
 /// one of 4,096.
 pub const LISTS: [List; 7] = [
-    ([2, 8, 4, 4_096], ZEROS, 4_527),
-    ([8, 8, 1, 1_024], RANDOM, 4_096),
-    ([4, 8, 2, 4_096], RANDOM, 16_384),
-    ([8, 7, 3, 32_768], RANDOM, 65_536),
-    ([2, 8, 4, 65_536], RANDOM, 65_536),
+    ([2, 8, 4, 4_096], RULER, FULL_RULER),
+    ([12, 8, 1, 1_024], RANDOM, 4_096),
+    ([12, 7, 2, 5_120], RANDOM, 16_384),
+    ([12, 8, 3, 32_768], RANDOM, 65_536),
+    ([12, 8, 4, 65_536], RANDOM, 65_536),
     ([12, 7, 4, 22_000], RANDOM, 65_536),
     FULL,
 ];

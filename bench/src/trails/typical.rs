@@ -23,10 +23,10 @@ pub struct Typical {
 }
 
 /// Contents and their kinds as `vectors` numbers them, over 16 KiB.
-const CONTENTS: [(&str, u64); 4] = [("zeros", 0), ("random", 2), ("samples", 4), ("repeats", 5)];
+const CONTENTS: [(&str, u64); 4] = [("ruler", 6), ("random", 2), ("samples", 4), ("repeats", 5)];
 
 /// w, p, L, M.
-const SETTINGS: [[u64; 4]; 2] = [[4, 4, 3, 4_096], [2, 8, 4, 16_384]];
+const SETTINGS: [[u64; 4]; 2] = [[12, 7, 2, 5_120], [2, 8, 4, 16_384]];
 
 /// The orders of children of all nodes above the last level.
 fn orders(nodes: &[Node], levels: u64) -> Vec<Vec<u64>> {

@@ -4,7 +4,9 @@
 //! costs.
 
 mod growth;
+mod hostile;
 mod measure;
+mod runs;
 mod strings;
 mod table;
 mod windows;
@@ -18,6 +20,8 @@ pub fn run() {
         .collect();
     table::print(&rows);
     table::print_worst(&rows);
+    runs::run();
+    hostile::run();
 }
 
 /// Measures how the time grows with the string under many more settings, and prints a sentence.

@@ -8,7 +8,6 @@ pub const CONTENTS: [(&str, u64); 4] = [("zeros", 0), ("random", 2), ("samples",
 
 /// The place of each content that a figure names.
 pub const ZEROS: usize = 0;
-pub const RANDOM: usize = 1;
 pub const SEVENS: usize = 3;
 
 /// The lengths in KiB, each four times the one before.

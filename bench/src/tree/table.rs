@@ -2,7 +2,7 @@
 
 use super::growth::{growth, name, worst, Figure};
 use super::measure::{Cost, Row};
-use super::strings::{CONTENTS, RANDOM, SEVENS, SIZES, ZEROS};
+use super::strings::{CONTENTS, SEVENS, SIZES, ZEROS};
 use reference::settings::Settings;
 
 /// One level with h from 1 to 32,768; four levels with p = 2 and with p = 8, the first h from 8 to
@@ -73,15 +73,6 @@ fn passes(cost: &Cost) -> String {
     format!("{:.1}{star}", cost.passes)
 }
 
-fn zeros_to_random(row: &Row) -> Vec<Figure> {
-    let pairs = row.costs[ZEROS].iter().zip(&row.costs[RANDOM]);
-    let figure = |(zeros, random): (&Cost, &Cost)| {
-        let place = format!("{}, {} KiB", name(&row.settings), zeros.length / 1_024);
-        (zeros.passes / random.passes, place)
-    };
-    pairs.map(figure).collect()
-}
-
 fn longest(row: &Row) -> Vec<Figure> {
     let figure = |(costs, (content, _)): (&Vec<Cost>, (&str, u64))| {
         let cost = costs.last().expect("a content has strings");
@@ -98,15 +89,13 @@ fn print_growth(rows: &[Row]) {
     let (most, place) = worst(all(SEVENS));
     println!(
         "For sevens they cost at most {most:.2} times the time ({place}): the shorter string has no position \
-         where a cut may lie and is only hashed, and of the longer one every window is looked at."
+         where a cut may lie and is only hashed, and of the longer one most windows are looked at."
     );
 }
 
 /// The worst figures, in sentences.
 pub fn print_worst(rows: &[Row]) {
     print_growth(rows);
-    let (most, place) = worst(rows.iter().flat_map(zeros_to_random));
-    println!("Zeros cost at most {most:.1} times random bytes ({place}).");
     let four = rows.iter().filter(|row| row.settings.levels == 4);
     let (most, place) = worst(four.flat_map(longest));
     println!(

@@ -52,12 +52,23 @@ fn passes(bytes: &[u8], work: impl FnMut()) -> f64 {
     call / pass
 }
 
-/// Equal bytes whose windows have a value other than 0, so that the search passes over none of them.
+/// Equal bytes but for one, the last of the window at the only position where a cut may lie: the value there is below all before it, not
+/// above any after it, and not 0, so that the search passes over none of them.
 fn string(settings: &Settings) -> Vec<u8> {
     let rule = settings.rule(1);
-    let looked_at = |byte: &u8| window_values(&vec![*byte; rule.window], &rule) != [0];
-    let byte = (1..=255).find(looked_at).expect("such a byte");
-    vec![byte; LENGTH]
+    let last = rule.window - 1;
+    let lowest = |&[byte, other]: &[u8; 2]| {
+        let mut around = vec![byte; 2 * rule.window];
+        around[last] = other;
+        let values = window_values(&around, &rule);
+        let below = 0 < values[0] && values[0] < values[rule.window];
+        below && values.iter().all(|value| values[0] <= *value)
+    };
+    let mut all = (0..=255).flat_map(|byte| (0..=255).map(move |other| [byte, other]));
+    let [byte, other] = all.find(lowest).expect("two such bytes");
+    let mut bytes = vec![byte; LENGTH];
+    bytes[rule.distance + last] = other;
+    bytes
 }
 
 /// The passes of a cutting's search. With M = n − w, and h half of it, a cut may lie at one position, whose neighbours are all other

@@ -10,6 +10,7 @@ use native.Mathlib.Omega.{arith}
 use borrow.Author.Tests.{eqb-true, leb-true, le-leb, eq-eqb, ne-eqb}
 use lib.Dec.{leb, eqb}
 use lib.ListN.{length}
+use Rattle.partition.specs.Cuts.{ruleNumber}
 use Rattle.tree.specs.declared.Settings.{Settings}
 use Rattle.tree.specs.Questions.{ask}
 use Rattle.tree.proofs.Questions.{passed, granted}
@@ -52,7 +53,7 @@ heard seven is = record { settings-are = refl; passed-seven = seven; cells-are =
 width-equal : (σ : Settings) (rule w p L M q : ℕ) → sameSettings σ rule w p L M q ≡ true → q ≡ σ .width
 unfolding sameSettings
 width-equal σ rule w p L M q e =
-    let first = and-true (eqb rule 1) _ e in
+    let first = and-true (eqb rule ruleNumber) _ e in
     let second = and-true (eqb w (σ .window)) _ (first .1) in
     let third = and-true (eqb p (σ .«fan_out»)) _ (second .1) in
     let fourth = and-true (eqb L (σ .levels)) _ (third .1) in

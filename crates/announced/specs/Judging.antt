@@ -5,12 +5,12 @@ use mathlib.Core.List.{List, []}
 use mathlib.Core.Path.{_≡_}
 use Prim.Native.Nat.{ℕ}
 use lib.Dec.{leb, eqb}
+use Rattle.partition.specs.Cuts.{ruleNumber}
 use Rattle.tree.specs.declared.Settings.{Settings}
 use Rattle.tree.specs.Questions.{ask}
 use Rattle.sketch.specs.Opening.{Signed, positives, negatives}
 use Rattle.single.specs.Peeling.{listTable}
 use Rattle.opening.specs.Deciding.{openRefusal, takenAfter, Decided}
-use Rattle.protocol.specs.Sender.{ruleNumber}
 use Rattle.announced.specs.Cells.{cellTable}
 
 -- "12 opening's rule and settings equal the own?"

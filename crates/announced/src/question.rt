@@ -8,7 +8,7 @@ use tree::Settings;
 pub fn same(settings: Settings, rule: u64, w: u64, p: u64, levels: u64, m: u64, q: u64) -> bool
     ensures { λ r. ⌜ r ≡ sameSettings settings rule w p levels m q ⌝ }
 {
-    if rule != 1 {
+    if rule != partition::RULE_NUMBER {
         return false;
     }
     if w != settings.window {

@@ -79,9 +79,9 @@ cases =
     ∷ case (cuts sixBytes) (2 ∷ [])
     -- The printed tree of the six bytes.
     ∷ case (extents (nodesOf settings sixBytes)) (0 ∷ 0 ∷ 6 ∷ 1 ∷ 0 ∷ 2 ∷ 1 ∷ 2 ∷ 4 ∷ [])
-    -- "five bytes 07: cuts 1 and 2." "Four: cut 1." "Three: none."
-    ∷ case (cuts (7 ∷ 7 ∷ 7 ∷ 7 ∷ 7 ∷ [])) (1 ∷ 2 ∷ [])
-    ∷ case (cuts (7 ∷ 7 ∷ 7 ∷ 7 ∷ [])) (1 ∷ [])
+    -- "The starred four and five bytes 07 now have no cut." "Three: none."
+    ∷ case (cuts (7 ∷ 7 ∷ 7 ∷ 7 ∷ 7 ∷ [])) []
+    ∷ case (cuts (7 ∷ 7 ∷ 7 ∷ 7 ∷ [])) []
     ∷ case (cuts (7 ∷ 7 ∷ 7 ∷ [])) []
     -- "Empty: one empty block per level."
     ∷ case (extents (nodesOf settings [])) (0 ∷ 0 ∷ 0 ∷ 1 ∷ 0 ∷ 0 ∷ [])

@@ -68,7 +68,7 @@ fn opening_case(q: u64, cells: &mut [u8], buffer: &mut [u8]) {
     let answer = write_opening(
         buffer,
         7,
-        1,
+        partition::RULE_NUMBER,
         12,
         8,
         4,

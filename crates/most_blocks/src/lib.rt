@@ -1,7 +1,7 @@
-// The file with most blocks: how many one cutting gives at most, and zero bytes, which have as many. Document 02, request 6.
+// How many blocks one cutting gives at most. Document 02, requests 6 and 7.
 ghost use mathlib.Core.Path.{_≡_};
 ghost use Prim.Native.Nat.{_≤_};
-ghost use Rattle.most_blocks.specs.Most.{mostBlocks, inRange, MostWritten};
+ghost use Rattle.most_blocks.specs.Most.{mostBlocks, inRange, mostAnswer};
 
 // What an accepted answer adds to its count.
 const ACCEPTED: u64 = 4294967296;
@@ -56,17 +56,12 @@ fn bound(n: u64, w: u64, h: u64) -> u64
     fitting
 }
 
-// Writes n zero bytes to the front of the file. The answer is 2^32 and the most blocks that one cutting by w and h gives of n bytes, which is how
-// many these have; or 23 where the file has fewer than n bytes, or 24 where a number is out of its range, and then the file is as it was.
-pub fn most_blocks(n: u64, w: u64, h: u64, file: &mut [u8]) -> u64
-    ensures { λ r. ⌜ MostWritten n w h (now (file .entry)) (now (file .exit)) r ⌝ }
+// 2^32 and the most blocks that one cutting of n bytes by w and h gives; or 24 where a number is out of its range.
+pub fn most_blocks(n: u64, w: u64, h: u64) -> u64
+    ensures { λ r. ⌜ r ≡ mostAnswer n w h ⌝ }
 {
-    if (file.len() as u64) < n {
-        return 23;
-    }
     if !in_range(n, w, h) {
         return 24;
     }
-    rows::clear(&mut file[..n as usize], 0);
     ACCEPTED + bound(n, w, h)
 }

@@ -1,17 +1,17 @@
--- The next candidate. `Low` is the candidate's comparison as one claim with no sides. A position p whose value m is below all from a on and
--- not above the h after it is low unless a value before a is below m. The last of these, if it is within h of p, bars all positions from p on
--- that are within h of it.
+-- The next candidate. `Low` is the candidate's comparison as a claim for each side. A position p whose value m is below all from a on and not above
+-- the h after it is low unless a value before a is at most m. The last of these, if it is within h of p, bars all positions from p on that are within h
+-- of it.
 use mathlib.Core.Bool.{Bool, true, false, _&&_, false≢true}
 use mathlib.Core.List.{List}
 use mathlib.Core.Path.{_≡_, refl, sym, subst}
 use Prim.Native.Nat.{ℕ, zero, suc, _+_, _-_, _≤_, _<_}
 use native.Mathlib.Decide.{decLt, ℕ-discrete}
 use native.Mathlib.Omega.{arith}
-use lib.Dec.{leb}
+use lib.Dec.{leb, ltb}
 use lib.ListN.{length}
-use borrow.Author.Tests.{le-leb, leb-true}
+use borrow.Author.Tests.{le-leb, leb-true, lt-ltb, ltb-true}
 use Rattle.partition.specs.Cuts.{valueAt, lowest, candidate}
-use Rattle.partition.specs.Scans.{Low, Floor, AfterLastBelow, FirstLow, FirstPassing, NextCandidate}
+use Rattle.partition.specs.Scans.{Low, Floor, AfterLastLow, FirstLow, FirstPassing, NextCandidate}
 
 both : (a b : Bool) → (a && b) ≡ true → (a ≡ true) × (b ≡ true)
 both true b e = (refl, e)
@@ -24,28 +24,36 @@ refuted : (b : Bool) → (b ≡ true → ⊥) → b ≡ false
 refuted true h = absurd (h refl)
 refuted false h = refl
 
+-- One further away on either side.
+low-more : (v : ℕ → ℕ) (i d : ℕ) → v i < v (i - suc d) → v i ≤ v (i + suc d) → Low v d i → Low v (suc d) i
+low-more v i d left right nearer = record { before = λ j x y. at j x y (ℕ-discrete i (j + suc d)); after = λ j x y. to j x y (ℕ-discrete j (i + suc d)) }
+  where
+    at : (j : ℕ) → i ≤ j + suc d → j < i → Dec (i ≡ j + suc d) → v i < v j
+    at j x y (yes q) = subst (λ (k : ℕ). v i < v k) (let r : i - suc d ≡ j = omega arith in r) left
+    at j x y (no q) = nearer .before j (omega arith) y
+
+    to : (j : ℕ) → i ≤ j → j ≤ i + suc d → Dec (j ≡ i + suc d) → v i ≤ v j
+    to j x y (yes q) = subst (λ (k : ℕ). v i ≤ v k) (sym q) right
+    to j x y (no q) = nearer .after j x (omega arith)
+
 lowest-low : (v : ℕ → ℕ) (i d : ℕ) → lowest v i d ≡ true → Low v d i
 unfolding lowest
-lowest-low v i zero e j a b = subst (λ (k : ℕ). v i ≤ v k) (let q : i ≡ j = omega arith in q) (omega arith)
-lowest-low v i (suc d) e j a b =
-    let p = both (leb (v i) (v (i - suc d))) (leb (v i) (v (i + suc d)) && lowest v i d) e in
+lowest-low v i zero e =
+    record { before = λ j x y. absurd (omega arith); after = λ j x y. subst (λ (k : ℕ). v i ≤ v k) (let q : i ≡ j = omega arith in q) (omega arith) }
+lowest-low v i (suc d) e =
+    let p = both (ltb (v i) (v (i - suc d))) (leb (v i) (v (i + suc d)) && lowest v i d) e in
     let q = both (leb (v i) (v (i + suc d))) (lowest v i d) (p .1) in
-    at (leb-true (v i) (v (i - suc d)) (p .0)) (leb-true (v i) (v (i + suc d)) (q .0)) (lowest-low v i d (q .1)) (ℕ-discrete i (j + suc d)) (ℕ-discrete j (i + suc d))
-  where
-    at : v i ≤ v (i - suc d) → v i ≤ v (i + suc d) → Low v d i → Dec (i ≡ j + suc d) → Dec (j ≡ i + suc d) → v i ≤ v j
-    at left right nearer (yes q) s = subst (λ (k : ℕ). v i ≤ v k) (let r : i - suc d ≡ j = omega arith in r) left
-    at left right nearer (no q) (yes r) = subst (λ (k : ℕ). v i ≤ v k) (sym r) right
-    at left right nearer (no q) (no r) = nearer j (omega arith) (omega arith)
+    low-more v i d (ltb-true (v i) (v (i - suc d)) (p .0)) (leb-true (v i) (v (i + suc d)) (q .0)) (lowest-low v i d (q .1))
 
-low-lowest : (v : ℕ → ℕ) (i d : ℕ) → Low v d i → lowest v i d ≡ true
+low-lowest : (v : ℕ → ℕ) (i d : ℕ) → d ≤ i → Low v d i → lowest v i d ≡ true
 unfolding lowest
-low-lowest v i zero low = refl
-low-lowest v i (suc d) low =
-    joined (leb (v i) (v (i - suc d))) (leb (v i) (v (i + suc d)) && lowest v i d)
-    (le-leb (v i) (v (i - suc d)) (low (i - suc d) (omega arith) (omega arith)))
+low-lowest v i zero l low = refl
+low-lowest v i (suc d) l low =
+    joined (ltb (v i) (v (i - suc d))) (leb (v i) (v (i + suc d)) && lowest v i d)
+    (lt-ltb (v i) (v (i - suc d)) (low .before (i - suc d) (omega arith) (omega arith)))
     (joined (leb (v i) (v (i + suc d))) (lowest v i d)
-    (le-leb (v i) (v (i + suc d)) (low (i + suc d) (omega arith) (omega arith)))
-    (low-lowest v i d (λ j a b. low j (omega arith) (omega arith))))
+    (le-leb (v i) (v (i + suc d)) (low .after (i + suc d) (omega arith) (omega arith)))
+    (low-lowest v i d (omega arith) (record { before = λ j x y. low .before j (omega arith) y; after = λ j x y. low .after j x (omega arith) })))
 
 -- What a candidate is.
 pub record Candidate (w h s : ℕ) (bytes : List ℕ) (i : ℕ) : Type 0 where
@@ -60,32 +68,31 @@ candidate-is w h s bytes i e =
     let q = both (leb (i + w + h) (length bytes)) (lowest (valueAt w s bytes) i h) (p .1) in
     record { left = leb-true h i (p .0); right = leb-true (i + w + h) (length bytes) (q .0); low = lowest-low (valueAt w s bytes) i h (q .1) }
 
-pub is-candidate : (w h s : ℕ) (bytes : List ℕ) (i : ℕ) → Candidate w h s bytes i → candidate w h s bytes i ≡ true
+is-candidate : (w h s : ℕ) (bytes : List ℕ) (i : ℕ) → Candidate w h s bytes i → candidate w h s bytes i ≡ true
 unfolding candidate
 is-candidate w h s bytes i c =
     joined (leb h i) (leb (i + w + h) (length bytes) && lowest (valueAt w s bytes) i h) (le-leb h i (c .left))
     (joined (leb (i + w + h) (length bytes)) (lowest (valueAt w s bytes) i h) (le-leb (i + w + h) (length bytes) (c .right))
-    (low-lowest (valueAt w s bytes) i h (c .low)))
+    (low-lowest (valueAt w s bytes) i h (c .left) (c .low)))
 
 pub not-candidate : (w h s : ℕ) (bytes : List ℕ) (i : ℕ) → (Candidate w h s bytes i → ⊥) → candidate w h s bytes i ≡ false
 not-candidate w h s bytes i c = refuted (candidate w h s bytes i) (λ e. c (candidate-is w h s bytes i e))
 
 -- A position p whose value m is below all from a on and not above the h after it, and what lies before a.
 module _ (v : ℕ → ℕ) (h a end p m : ℕ) (far : h ≤ a) (F : FirstLow v h a end p m) (inside : p < end) where
-  low-if : ((j : ℕ) → p ≤ j + h → j < a → m ≤ v j) → Low v h p
-  low-if before j x y = at (decLt j a) (decLt j p)
+  low-if : ((j : ℕ) → p ≤ j + h → j < a → m < v j) → Low v h p
+  low-if left = record { before = λ j x y. at j x y (decLt j a); after = F .after inside }
     where
-      at : Dec (j < a) → Dec (j < p) → v p ≤ v j
-      at (yes q) d = omega (arith, before j x q)
-      at (no q) (yes r) = omega (arith, F .falls j (omega arith) r)
-      at (no q) (no r) = F .after inside j (omega arith) y
+      at : (j : ℕ) → p ≤ j + h → j < p → Dec (j < a) → v p < v j
+      at j x y (yes q) = omega (arith, left j x q)
+      at j x y (no q) = F .falls j (omega arith) y
 
-  module _ (t : ℕ) (T : AfterLastBelow v m (p - h) a t) (near : p < t + h) where
+  module _ (t : ℕ) (T : AfterLastLow v m (p - h) a t) (near : p < t + h) where
     not-below : (j : ℕ) → t ≤ j → j < t + h → m ≤ v j
     not-below j x y = at (decLt j a) (decLt j p)
       where
         at : Dec (j < a) → Dec (j < p) → m ≤ v j
-        at (yes q) d = T .after j x q
+        at (yes q) d = omega (arith, T .after j x q)
         at (no q) (yes r) = omega (arith, F .falls j (omega arith) r)
         at (no q) (no r) = omega (arith, F .after inside j (omega arith) (omega arith))
 
@@ -94,7 +101,7 @@ module _ (v : ℕ → ℕ) (h a end p m : ℕ) (far : h ≤ a) (F : FirstLow v h
       where
         at : Dec (j < p) → ⊥
         at (yes q) = F .barred j x q low
-        at (no q) = omega (arith, T .found (omega arith), not-below j (omega arith) y, low (t - 1) (omega arith) (omega arith))
+        at (no q) = omega (arith, T .found (omega arith), not-below j (omega arith) y, low .before (t - 1) (omega arith) (omega arith))
 
 -- The positions from `from` up to a are no candidates, and the h before a have no value below f.
 pub record Searched (w h s : ℕ) (bytes : List ℕ) (from a f : ℕ) : Type 0 where
@@ -142,15 +149,15 @@ module _ (w h s : ℕ) (bytes : List ℕ) (from end : ℕ) (far : h ≤ from) (s
             value = λ x. F .value;
           }
 
-      pub next-known : m ≤ f → NextCandidate w h s bytes from end p m
+      pub next-known : m < f → NextCandidate w h s bytes from end p m
       next-known l =
           here (low-if (valueAt w s bytes) h a end p m (omega arith) F inside (λ j x y. omega (arith, S .floor .before j (omega arith) y)))
 
-      module _ (t : ℕ) (T : AfterLastBelow (valueAt w s bytes) m (p - h) a t) where
+      module _ (t : ℕ) (T : AfterLastLow (valueAt w s bytes) m (p - h) a t) where
         pub next-here : t + h ≤ p → NextCandidate w h s bytes from end p m
         next-here l = here (low-if (valueAt w s bytes) h a end p m (omega arith) F inside (λ j x y. T .after j (omega arith) y))
 
-        -- On from the first position out of reach of the last smaller value.
+        -- On from the first position out of reach of the last value that is not greater.
         pub searched-on : p < t + h → Searched w h s bytes from (t + h) m
         searched-on l =
             record {

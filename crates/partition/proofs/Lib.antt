@@ -1,4 +1,4 @@
--- The laws. For callers: `Placed`, where cuts lie, and `Blocks`, the blocks between them.
+-- The laws. For callers: `Placed` and `Apart`, how cuts lie, `Blocks`, the blocks between them, and `Runs`, equal bytes.
 pub mod Reading
 pub mod Shifted
 pub mod Running
@@ -7,3 +7,5 @@ pub mod Candidates
 pub mod Search
 pub mod Placed
 pub mod Blocks
+pub mod Apart
+pub mod Runs

@@ -6,8 +6,8 @@ use native.Mathlib.Nat.{add-zero}
 use native.Mathlib.Omega.{arith}
 use lib.ListN.{length, getD}
 use Rattle.partition.specs.Cuts.{windowAt, valueAt}
-use Rattle.partition.specs.Sliding.{slid, running}
-use Rattle.partition.proofs.Reading.{window-small, window-here, value-of}
+use Rattle.partition.specs.Sliding.{slid, running, Stands}
+use Rattle.partition.proofs.Reading.{window-small, value-of}
 use Rattle.partition.proofs.Shifted.{shifted}
 
 -- The remainder, after any number of steps from wherever the first window starts.
@@ -35,11 +35,11 @@ pub record Runs (w : ℕ) (bytes : List ℕ) (from j x : ℕ) : Type 0 where
   pub value : x ≡ running w bytes from (j - from)
 
 module _ {w : ℕ} {bytes : List ℕ} {from : ℕ} where
-  pub runs-first : {x : ℕ} → x ≡ windowAt (from + w - from) bytes from → Runs w bytes from from x
+  pub runs-first : {x : ℕ} → x ≡ windowAt w bytes from → Runs w bytes from from x
   unfolding running
   runs-first e =
       let z : from - from ≡ 0 = omega arith in
-      record { started = omega arith; value = rw z (window-here w bytes from e) }
+      record { started = omega arith; value = rw z e }
 
   module _ {j x : ℕ} (R : Runs w bytes from j x) where
     here : from + (j - from) ≡ j
@@ -54,6 +54,13 @@ module _ {w : ℕ} {bytes : List ℕ} {from : ℕ} where
         let more : j + 1 - from ≡ suc (j - from) = omega arith in
         record { started = omega arith; value = rw (more, here, ← R .value) e }
 
+    pub runs-number : j + w ≤ length bytes → x ≡ windowAt w bytes j
+    runs-number l = R .value ∙ running-is w bytes from (j - from) (omega (arith, here)) ∙ ap (windowAt w bytes) here
+
     pub runs-value : (s : ℕ) → j + w ≤ length bytes → x % s ≡ valueAt w s bytes j
-    runs-value s l =
-        ap (λ (y : ℕ). y % s) (R .value) ∙ running-value w s bytes from (j - from) (omega (arith, here)) ∙ ap (valueAt w s bytes) here
+    runs-value s l = value-of w s bytes j (runs-number l)
+
+-- Where a scan stands, from the window there and the one before.
+pub stands : (w s : ℕ) (bytes : List ℕ) (at last : ℕ) {number x : ℕ} → last ≡ at - 1 → x ≡ windowAt w bytes last → number ≡ windowAt w bytes at
+    → Stands w s bytes at number (x % s)
+stands w s bytes at last e before here = record { here = here; last = value-of w s bytes last before ∙ ap (valueAt w s bytes) e }

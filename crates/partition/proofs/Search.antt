@@ -94,7 +94,7 @@ module _ (test : ℕ → Bool) (h : ℕ) where
           ∙ ap (λ (n : ℕ). spaced h b (passing test n b)) (sym r)
 
   -- A cut at p.
-  pub cut : (e p : ℕ) → p < e → test p ≡ true → after test h e p ≡ p ∷ after test h e (p + max h 1)
+  cut : (e p : ℕ) → p < e → test p ≡ true → after test h e p ≡ p ∷ after test h e (p + max h 1)
   unfolding after passing spaced consIf
   cut e p l passes =
       let k : e - p ≡ suc (e - suc p) = omega arith in
@@ -201,7 +201,7 @@ module _ (w h s : ℕ) (bytes at : List ℕ) where
 -- After a cut at p no value is below that of p, as far as the next cut may follow.
 pub floor-after : (w h s : ℕ) (bytes : List ℕ) (p m step : ℕ) → candidate w h s bytes p ≡ true → m ≡ valueAt w s bytes p → step ≡ max h 1
     → Floor (valueAt w s bytes) h m (p + step)
-floor-after w h s bytes p m step c e l = record { before = λ j a b. omega (arith, candidate-is w h s bytes p c .low j (omega arith) (omega arith)) }
+floor-after w h s bytes p m step c e l = record { before = λ j a b. omega (arith, candidate-is w h s bytes p c .low .after j (omega arith) (omega arith)) }
 
 -- A window of w bytes whose values are taken modulo s makes the same cuts.
 module _ (w s width modulus : ℕ) (S : Sized w s width modulus) (h : ℕ) (bytes : List ℕ) where

@@ -1,8 +1,9 @@
--- Where one block is cut: document 01, 'Settings and tree', from 'Window value at i' to 'After 31 cuts no more are made'.
+-- Where one block is cut: document 01, 'Settings and tree', from 'Window value at i' to 'After 31 cuts no more are made', with the cutting rule of
+-- document 02, request 7.
 use mathlib.Core.Bool.{Bool, true, false, cond, _&&_}
 use mathlib.Core.List.{List, [], _∷_}
 use Prim.Native.Nat.{ℕ, zero, suc, _+_, _*_, _-_, _%_}
-use lib.Dec.{leb}
+use lib.Dec.{leb, ltb}
 use lib.ListN.{length, take, drop}
 
 -- Bytes read as a base-257 number, first byte highest, going on after the number x.
@@ -18,12 +19,17 @@ windowAt w bytes i = numberFrom 0 (take w (drop i bytes)) % 65521
 unfoldable pub valueAt : ℕ → ℕ → List ℕ → ℕ → ℕ
 valueAt w s bytes i = windowAt w bytes i % s
 
--- The value at i "is not greater than any value at distance 1 to d on either side".
+-- The number of this rule: "The opening's rule number becomes 2".
+abbrev pub ruleNumber : ℕ
+ruleNumber = 2
+
+-- The value at i is "smaller than each of the [d] values before it and not greater than the [d] after it".
 unfoldable pub lowest : (ℕ → ℕ) → ℕ → ℕ → Bool
 lowest v i zero = true
-lowest v i (suc d) = leb (v i) (v (i - suc d)) && (leb (v i) (v (i + suc d)) && lowest v i d)
+lowest v i (suc d) = ltb (v i) (v (i - suc d)) && (leb (v i) (v (i + suc d)) && lowest v i d)
 
--- "Position i is a candidate when h ≤ i ≤ n−w−h and its value is not greater than any value at distance 1 to h on either side."
+-- "Position i is a candidate when h ≤ i ≤ n−w−h", and "a candidate's value must be smaller than each of the h values before it and not greater
+-- than the h after it".
 unfoldable pub candidate : ℕ → ℕ → ℕ → List ℕ → ℕ → Bool
 candidate w h s bytes i = leb h i && (leb (i + w + h) (length bytes) && lowest (valueAt w s bytes) i h)
 

@@ -1,9 +1,9 @@
 -- A window that slides: document 02, request 4, and below its words what a window promises. No public contract cites these.
 use mathlib.Core.List.{List}
 use mathlib.Core.Path.{_≡_}
-use Prim.Native.Nat.{ℕ, zero, suc, _+_, _*_, _%_, _^_, _≤_, _<_}
+use Prim.Native.Nat.{ℕ, zero, suc, _+_, _*_, _-_, _%_, _^_, _≤_, _<_}
 use lib.ListN.{getD}
-use Rattle.partition.specs.Cuts.{windowAt}
+use Rattle.partition.specs.Cuts.{windowAt, valueAt}
 
 -- How often a byte is added that a window of w bytes leaves. One place further it would count 257^w times; modulo 65,521, adding something 65,520
 -- times takes it away once.
@@ -28,3 +28,8 @@ pub record Modulus (s m : ℕ) : Type 0 where
 pub record Sized (w s width modulus : ℕ) : Type 0 where
   pub wide : width ≡ w
   pub reduces : Modulus s modulus
+
+-- `number` is that of the window at `at`, and `before` the value of the window just before it, or at 0 its own.
+pub record Stands (w s : ℕ) (bytes : List ℕ) (at number before : ℕ) : Type 0 where
+  pub here : number ≡ windowAt w bytes at
+  pub last : before ≡ valueAt w s bytes (at - 1)

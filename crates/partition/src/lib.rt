@@ -1,9 +1,13 @@
-// Where one block of bytes is cut, by document 01's rule.
+// Where one block of bytes is cut, by the rule of document 02, request 7.
 ghost use Rattle.partition.specs.Found.{Found};
 
 mod scan;
 mod sliding;
+mod start;
 mod window;
+
+// The number of this rule, which an opening carries.
+pub const RULE_NUMBER: u64 = 2;
 
 // The cuts of one block, from the left: the first n numbers of `at`.
 pub struct Cuts {

@@ -3,10 +3,16 @@ ghost use mathlib.Core.Path.{_≡_};
 ghost use Prim.Native.Nat.{_+_, _-_, _^_, _≤_, _<_, max};
 ghost use lib.ListN.{length};
 ghost use Rattle.partition.specs.Cuts.{valueAt};
-ghost use Rattle.partition.specs.Scans.{AfterLastBelow, FirstLow, Floor, NextCandidate};
+ghost use Rattle.partition.specs.Scans.{AfterLastLow, FirstLow, Floor, NextCandidate};
+ghost use Rattle.partition.specs.Sliding.{Stands};
 use super::sliding;
 use super::sliding::Window;
+use super::start;
+use super::start::Start;
 use super::window;
+
+// How many positions before a start are looked at first: some more than the steps that reading a window takes.
+const FIRST_STRETCH: usize = 16;
 
 // A position and the value there.
 pub struct Place {
@@ -35,11 +41,11 @@ pub fn step(h: usize) -> usize
     if h == 0 { 1 } else { h }
 }
 
-// One past the last of the positions from `from` up to `to` with a value below m, or `from` if there is none.
-fn after_last_below(bytes: &[u8], window: Window, m: u32, from: usize, to: usize) -> usize
+// One past the last of the positions from `from` up to `to` with a value of at most m, or `from` if there is none.
+fn after_last_low(bytes: &[u8], window: Window, m: u32, from: usize, to: usize) -> usize
     requires { ⌜ 1 ≤ window .modulus ⌝ }
     requires { ⌜ to + window .width ≤ length (now bytes) ⌝ }
-    ensures { λ r. ⌜ AfterLastBelow (valueAt (window .width) (window .modulus) (now (bytes .entry))) m from to r ⌝ }
+    ensures { λ r. ⌜ AfterLastLow (valueAt (window .width) (window .modulus) (now (bytes .entry))) m from to r ⌝ }
 {
     if to <= from {
         return from;
@@ -51,25 +57,65 @@ fn after_last_below(bytes: &[u8], window: Window, m: u32, from: usize, to: usize
         let value = x % window.modulus;
         x = sliding::next(bytes, window.width, x, j);
         j += 1;
-        if value < m {
+        if value <= m {
             r = j;
         }
     }
     r
 }
 
-// The first position that no value from `from` on bars: its own is below all from `from` up to it and not above any of the h
-// after it. Where there is none before `end`, a position from `end` on. A smaller value bars the h positions before itself.
-fn first_low(bytes: &[u8], window: Window, h: usize, from: usize, end: usize) -> Place
-    requires { ⌜ 1 ≤ window .modulus ⌝ }
-    requires { ⌜ from < end ⌝ }
-    requires { ⌜ end + window .width + h ≤ length (now bytes) + 1 ⌝ }
-    ensures { λ r. ⌜ FirstLow (valueAt (window .width) (window .modulus) (now (bytes .entry))) h from end (r .at) (r .value) ⌝ }
+// The position so far before `to`, but not before `from`.
+fn back_by(stretch: usize, from: usize, to: usize) -> usize
+    requires { ⌜ from ≤ to ⌝ }
+    ensures { λ r. ⌜ r ≡ max from (to - stretch) ⌝ }
 {
-    let mut x = window::number(bytes, from, from + window.width);
+    if to - from < stretch {
+        from
+    } else {
+        to - stretch
+    }
+}
+
+// One past the last of the positions from `from` up to the start with a value of at most m, or `from` if there is none. In a run of equal
+// bytes it is the position just before the start. Elsewhere it mostly is near, so that stretches are looked at further and further back, each
+// longer than all after it.
+fn after_last(bytes: &[u8], window: Window, start: Start, m: u32, from: usize) -> usize
+    requires { ⌜ 1 ≤ window .modulus ⌝ }
+    requires { ⌜ start .at + window .width ≤ length (now bytes) ⌝ }
+    requires { ⌜ Stands (window .width) (window .modulus) (now bytes) (start .at) (start .number) (start .before) ⌝ }
+    ensures { λ r. ⌜ AfterLastLow (valueAt (window .width) (window .modulus) (now (bytes .entry))) m from (start .at) r ⌝ }
+{
+    if from < start.at {
+        if start.before <= m {
+            return start.at;
+        }
+    }
+    let mut to = start.at;
+    while from < to {
+        let stretch = start.at - to + FIRST_STRETCH;
+        let back = back_by(stretch, from, to);
+        let last = after_last_low(bytes, window, m, back, to);
+        if back < last {
+            return last;
+        }
+        to = back;
+    }
+    from
+}
+
+// The first position that no value from the start on bars: its own is below all from the start up to it and not above any of the h
+// after it. Where there is none before `end`, a position from `end` on. A smaller value bars the h positions before itself.
+fn first_low(bytes: &[u8], window: Window, h: usize, start: Start, end: usize) -> Place
+    requires { ⌜ 1 ≤ window .modulus ⌝ }
+    requires { ⌜ Stands (window .width) (window .modulus) (now bytes) (start .at) (start .number) (start .before) ⌝ }
+    requires { ⌜ start .at < end ⌝ }
+    requires { ⌜ end + window .width + h ≤ length (now bytes) + 1 ⌝ }
+    ensures { λ r. ⌜ FirstLow (valueAt (window .width) (window .modulus) (now (bytes .entry))) h (start .at) end (r .at) (r .value) ⌝ }
+{
+    let mut x = start.number;
     let mut value = x % window.modulus;
-    let mut at = from;
-    let mut j = from;
+    let mut at = start.at;
+    let mut j = start.at;
     while j < at + h {
         // No value is below 0.
         if value == 0 {
@@ -90,8 +136,8 @@ fn first_low(bytes: &[u8], window: Window, h: usize, from: usize, end: usize) ->
 }
 
 // The first candidate of the positions from `from` up to `end` and its value, or `end` if there is none. No value of the h
-// positions before `from` is below `floor`. A position that no value from the start on bars is a candidate unless a smaller value
-// before the start does. The last such value bars the h positions after itself, and the search starts again after these.
+// positions before `from` is below `floor`. A position that no value from the start on bars is a candidate unless one before the start that is
+// not greater does. The last such value bars the h positions after itself, and the search starts again after these.
 pub fn next_candidate(
     bytes: &[u8],
     window: Window,
@@ -107,23 +153,23 @@ pub fn next_candidate(
     requires { ⌜ end + window .width + h ≤ length (now bytes) + 1 ⌝ }
     ensures { λ r. ⌜ NextCandidate (window .width) h (window .modulus) (now (bytes .entry)) from end (r .at) (r .value) ⌝ }
 {
-    let mut a = from;
+    let mut start = start::start_at(bytes, window, from);
     let mut known = floor;
-    while a < end {
-        let low = first_low(bytes, window, h, a, end);
+    while start.at < end {
+        let low = first_low(bytes, window, h, start, end);
         let p = low.at;
         if end <= p {
             return Place { at: end, value: 0 };
         }
-        if low.value <= known {
+        if low.value < known {
             return low;
         }
-        let t = after_last_below(bytes, window, low.value, p - h, a);
+        let t = after_last(bytes, window, start, low.value, p - h);
         if t + h <= p {
             return low;
         }
         known = low.value;
-        a = t + h;
+        start = start::moved(bytes, window, start, t + h);
     }
     Place { at: end, value: 0 }
 }

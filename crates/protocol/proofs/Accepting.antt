@@ -7,6 +7,7 @@ use native.Mathlib.Omega.{arith}
 use lib.Dec.{leb, ltb}
 use lib.ListN.{length, take, length-map}
 use borrow.Author.Tests.{eq-eqb, lt-ltb, le-leb, ltb-true}
+use Rattle.partition.specs.Cuts.{ruleNumber}
 use Rattle.shingle.proofs.PairOrder.{and-true}
 use Rattle.fnv.specs.Fnv.{blockId}
 use Rattle.tree.specs.declared.Settings.{Settings}
@@ -28,7 +29,7 @@ use Rattle.message.specs.Messages.{Msg, nodeQuery, opening, composition, litera
 use Rattle.protocol.specs.Lent.{Lent, refusedBy, withShingles}
 use Rattle.protocol.specs.State.{Pending, State, pending, initial, going}
 use Rattle.protocol.specs.Numbers.{stated}
-use Rattle.protocol.specs.Sender.{ruleNumber, hasNumber, composable, refsOf}
+use Rattle.protocol.specs.Sender.{hasNumber, composable, refsOf}
 use Rattle.single.specs.Peeling.{rowsIn}
 use Rattle.protocol.specs.Receiver.{peeledOf, openingRefusal, takeOpening, below, nodeRefusal, composes, children, takeNode, act, find, settle}
 use Rattle.single.specs.Peeling.{listTable}

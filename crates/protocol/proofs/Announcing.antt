@@ -10,6 +10,7 @@ use lib.ListN.{length, replicate}
 use Rattle.rows.specs.Rows.{bytesOf}
 use Rattle.fnv.specs.Fnv.{blockId}
 use Rattle.fnv.proofs.Fnv.{block-id-small}
+use Rattle.partition.specs.Cuts.{ruleNumber}
 use Rattle.tree.specs.declared.Settings.{Settings}
 use Rattle.node_table.specs.Entries.{idAt}
 use Rattle.sketch.specs.Sums.{rowBytes}
@@ -19,7 +20,7 @@ use Rattle.setup.proofs.Accepted.{first-id}
 use Rattle.message.specs.Messages.{opening, encode}
 use Rattle.message.proofs.Messages.{parse-encode}
 use Rattle.protocol.specs.Lent.{Lent, refusedBy}
-use Rattle.protocol.specs.Sender.{ruleNumber, openingReply}
+use Rattle.protocol.specs.Sender.{openingReply}
 use Rattle.protocol.specs.Calls.{Every}
 use Rattle.protocol.specs.Demand.{SetupAccepts, leftBySetup, Announces}
 use Rattle.protocol.proofs.Members.{every-append}

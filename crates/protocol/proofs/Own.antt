@@ -10,6 +10,7 @@ use lib.Dec.{eqb, leb, ltb}
 use lib.ListN.{length}
 use borrow.Author.Tests.{eqb-true, eq-eqb, ne-eqb, le-leb, lt-leb, ltb-true}
 use Rattle.fnv.specs.Fnv.{blockId}
+use Rattle.partition.specs.Cuts.{ruleNumber}
 use Rattle.tree.specs.declared.Settings.{Settings}
 use Rattle.tree.specs.Tree.{Node, node, childrenOf, inTurn, treeOf, nodesOf}
 use Rattle.node_table.specs.Laws.{Each, none as none-within, both as both-within}
@@ -30,7 +31,7 @@ use Rattle.protocol.specs.Lent.{Lent}
 use Rattle.node_table.specs.Nodes.{inside, entriesIn, fromFirst}
 use Rattle.protocol.specs.Nodes.{blockIn}
 use Rattle.protocol.specs.Numbers.{stated}
-use Rattle.protocol.specs.Sender.{ruleNumber, childIds, hasNumber, composable, refsOf, referable, nodeReply, openingReply, replyTo}
+use Rattle.protocol.specs.Sender.{childIds, hasNumber, composable, refsOf, referable, nodeReply, openingReply, replyTo}
 use Rattle.protocol.specs.Genuine.{blocksOf, childrenIds, firstOf, blockReply, foundReply, IsReply}
 use Rattle.protocol.specs.Demand.{SetupAccepts, leftBySetup}
 use Rattle.protocol.proofs.Memory.{few, made, nodes-is, accepted, cells-again, list-again}

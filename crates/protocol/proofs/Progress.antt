@@ -9,6 +9,7 @@ use Prim.Native.Nat.{ℕ, zero, suc, _%_, _^_, _≤_, _<_}
 use native.Mathlib.Nat.{mod-lt}
 use native.Mathlib.Omega.{arith}
 use lib.ListN.{length}
+use Rattle.partition.specs.Cuts.{ruleNumber}
 use Rattle.entries.proofs.Linear.{both}
 use Rattle.fnv.specs.Fnv.{blockId}
 use Rattle.fnv.proofs.Fnv.{block-id-small}
@@ -21,7 +22,6 @@ use Rattle.message.specs.Fields.{one, value}
 use Rattle.message.specs.Messages.{Msg, openingQuery, nodeQuery, opening, composition, literal, noNode, encode, headed, wordsThen, sizeOf, Parts, Valid}
 use Rattle.protocol.specs.Lent.{Lent}
 use Rattle.protocol.specs.State.{State, initial, running, outstanding}
-use Rattle.protocol.specs.Sender.{ruleNumber}
 use Rattle.protocol.specs.Receiver.{takeMessage, sessionOf}
 use Rattle.protocol.specs.Calls.{Call, takes, step, Event, event, accepts, counting, events, Every, Some}
 use Rattle.protocol.specs.Genuine.{blocksOf, firstOf, foundReply, IsReply, GenuineReply, Genuine}

@@ -1,14 +1,15 @@
--- What taking a message comes to: a refusal by 1 to 11, one by 12 to 19, or it is accepted.
+-- What taking a message comes to: a refusal by 1 to 11, one by 12 to 19, or it is accepted. And what an opening of another rule comes to.
 use mathlib.Core.Bool.{Bool, true, false, _&&_}
 use mathlib.Core.List.{List, [], _∷_}
 use mathlib.Core.Option.{Option, none, some}
 use mathlib.Core.Path.{_≡_, refl}
 use Prim.Native.Nat.{ℕ, _+_, _≤_}
 use native.Mathlib.Omega.{arith}
-use borrow.Author.Tests.{eqb-true, eqb-false}
+use borrow.Author.Tests.{eqb-true, eqb-false, ne-eqb}
 use lib.Dec.{eqb}
 use lib.ListN.{length, drop, replicate, length-append}
 use Rattle.fnv.specs.Fnv.{blockId}
+use Rattle.partition.specs.Cuts.{ruleNumber}
 use Rattle.tree.specs.Questions.{ask}
 use Rattle.shingle.proofs.PairOrder.{and-true}
 use Rattle.setup.specs.Questions.{tablesFit}
@@ -134,3 +135,18 @@ module _ (s : State) (m : Lent) where
 
 pub refusals : Refusals
 refusals s m message = refuses s m (verdict s m message)
+
+-- "ends with rule 1 meet refusal 12", and so does every other rule than the own, whatever else the opening has.
+module _ (s : State) (m : Lent) (n rule w p L M q size root : ℕ) (cells : List ℕ) (other : rule ≡ ruleNumber → ⊥) where
+  pub other-rule : openingRefusal s m rule w p L M q size cells ≡ 12
+  unfolding openingRefusal ask
+  other-rule = rw (ne-eqb rule ruleNumber other)
+
+  abbrev announced : Msg
+  announced = opening n rule w p L M q size root cells
+
+  -- Such an opening that passes the questions before 12 ends the session.
+  pub other-rule-ends : (message : List ℕ) → refusedBy (s .settings) m ≡ 0 → running s ≡ true → parse message ≡ some announced
+      → matches (outstanding s) announced ≡ true → takeMessage s m message ≡ ends 12 s m
+  unfolding takeMessage hear act takeOpening
+  other-rule-ends message passes runs read fits = rw (passes, runs, read, fits, other-rule)

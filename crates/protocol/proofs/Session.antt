@@ -10,6 +10,7 @@ use native.Mathlib.Omega.{arith}
 use lib.Dec.{eqb}
 use lib.ListN.{length, take}
 use borrow.Author.Tests.{eq-eqb}
+use Rattle.partition.specs.Cuts.{ruleNumber}
 use Rattle.entries.proofs.Linear.{both}
 use Rattle.fnv.specs.Fnv.{blockId}
 use Rattle.tree.specs.declared.Settings.{Settings}
@@ -21,7 +22,6 @@ use Rattle.message.specs.Messages.{Msg, openingQuery, nodeQuery, opening, parse
 use Rattle.message.proofs.Messages.{parse-encode}
 use Rattle.protocol.specs.Lent.{Lent, refusedBy}
 use Rattle.protocol.specs.State.{State, ended, initial, going, live, shallow, queryOf, running, outstanding}
-use Rattle.protocol.specs.Sender.{ruleNumber}
 use Rattle.protocol.specs.Receiver.{handed, Result, unchanged, sessionOf, fits, matches, act, hear, takeMessage}
 use Rattle.protocol.specs.Calls.{Call, takes, writes, step, goesOn, Event, event, accepts, counting, events, Every, accepted}
 use Rattle.protocol.specs.Genuine.{blocksOf, Accepted, IsReply, GenuineReply, Genuine}

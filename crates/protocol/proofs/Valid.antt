@@ -11,6 +11,7 @@ use lib.ListN.{length, take, drop, length-append}
 use borrow.Author.Tests.{le-leb, leb-true, ltb-true}
 use Rattle.fnv.specs.Fnv.{blockId}
 use Rattle.fnv.proofs.Fnv.{block-id-small}
+use Rattle.partition.specs.Cuts.{ruleNumber}
 use Rattle.tree.specs.declared.Settings.{Settings}
 use Rattle.tree.specs.Tree.{Node, nodesOf}
 use Rattle.node_table.specs.Laws.{Each, none as each-none, both as each-both}
@@ -37,7 +38,7 @@ use Rattle.message.specs.Fields.{Every as All}
 use Rattle.message.specs.Messages.{Msg, openingQuery, nodeQuery, opening, composition, literal, noNode, cellValues, headed, wordsThen, sizeOf, Parts, Valid}
 use Rattle.message.proofs.Rising.{risingFrom, rising-from-zero}
 use Rattle.protocol.specs.Numbers.{stated}
-use Rattle.protocol.specs.Sender.{ruleNumber, hasNumber, composable, refer, refsFrom, refsOf, indexed, referable}
+use Rattle.protocol.specs.Sender.{hasNumber, composable, refer, refsFrom, refsOf, indexed, referable}
 use Rattle.protocol.specs.Calls.{Every}
 use Rattle.protocol.specs.Genuine.{blocksOf, Accepted, childrenIds, firstOf, blockReply, foundReply, IsReply}
 use Rattle.protocol.proofs.Memory.{same-bytes, none-not}

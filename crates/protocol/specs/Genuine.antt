@@ -8,6 +8,7 @@ use Prim.Native.Nat.{ℕ, _+_, _≤_, _<_}
 use lib.Dec.{eqb}
 use lib.ListN.{length}
 use Rattle.fnv.specs.Fnv.{blockId}
+use Rattle.partition.specs.Cuts.{ruleNumber}
 use Rattle.tree.specs.declared.Settings.{Settings}
 use Rattle.tree.specs.Questions.{refusal}
 use Rattle.tree.specs.Tree.{childrenOf, nodesOf}
@@ -17,7 +18,7 @@ use Rattle.setup.specs.Tables.{shinglesOfString}
 use Rattle.message.specs.Words.{Ref}
 use Rattle.message.specs.Messages.{Msg, openingQuery, nodeQuery, opening, composition, literal, noNode, encode, parse, Valid}
 use Rattle.protocol.specs.Numbers.{stated}
-use Rattle.protocol.specs.Sender.{ruleNumber, composable, refsOf}
+use Rattle.protocol.specs.Sender.{composable, refsOf}
 use Rattle.protocol.specs.Receiver.{sessionOf}
 use Rattle.protocol.specs.Calls.{Every}
 

@@ -7,6 +7,7 @@ use Prim.Native.Nat.{ℕ, _+_, _^_}
 use lib.Dec.{leb, ltb, eqb}
 use lib.ListN.{length, getD, take, drop, replicate}
 use Rattle.fnv.specs.Fnv.{blockId}
+use Rattle.partition.specs.Cuts.{ruleNumber}
 use Rattle.tree.specs.declared.Settings.{Settings}
 use Rattle.tree.specs.Questions.{ask, within}
 use Rattle.shingle.specs.declared.Shingle.{Shingle}
@@ -19,7 +20,7 @@ use Rattle.message.specs.Messages.{Msg, openingQuery, nodeQuery, opening, compo
 use Rattle.protocol.specs.Lent.{Lent, refusedBy, withOutput, withShingles}
 use Rattle.protocol.specs.Nodes.{look}
 use Rattle.protocol.specs.Numbers.{meantBy, rightly}
-use Rattle.protocol.specs.Sender.{ruleNumber, Written, unwritten, writing}
+use Rattle.protocol.specs.Sender.{Written, unwritten, writing}
 use Rattle.protocol.specs.State.{Pending, pending, State, going, over, running, outstanding}
 
 -- What a call answers. Taking a message: the number of the question that refuses; accepted, and the session goes on; accepted, and a

@@ -6,6 +6,7 @@ use mathlib.Core.Option.{Option, none, some}
 use Prim.Native.Nat.{ℕ, zero, suc, _+_, _^_}
 use lib.Dec.{leb, ltb, eqb}
 use lib.ListN.{length, drop}
+use Rattle.partition.specs.Cuts.{ruleNumber}
 use Rattle.tree.specs.declared.Settings.{Settings}
 use Rattle.node_table.specs.Entries.{idAt}
 use Rattle.shingle.specs.declared.Shingle.{Shingle}
@@ -23,10 +24,6 @@ use Rattle.node_table.specs.declared.Entry.{Entry}
 use Rattle.node_table.specs.Nodes.{inside, entriesIn, fromFirst}
 use Rattle.protocol.specs.Nodes.{blockIn}
 use Rattle.protocol.specs.Numbers.{stated}
-
--- "rule (the number 1)"
-abbrev pub ruleNumber : ℕ
-ruleNumber = 1
 
 -- The ids of the children of a node of level l in a string of n bytes, from the entries after it: those one level down, up to the next
 -- that is not deeper. An entry that points outside the string is no child, but it ends the children as any other does.

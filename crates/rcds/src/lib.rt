@@ -7,7 +7,7 @@ ghost use lib.ListN.{length};
 ghost use Rattle.crossing.specs.Crossing.{Crossed};
 ghost use Rattle.message.specs.Messages.{parse};
 ghost use Rattle.message.specs.Reading.{typeAnswer};
-ghost use Rattle.most_blocks.specs.Most.{MostWritten};
+ghost use Rattle.most_blocks.specs.Most.{mostAnswer};
 ghost use Rattle.reply.specs.Reply.{Replied};
 ghost use Rattle.sender.specs.State.{settingsIn, SenderSetUp};
 ghost use Rattle.state_bytes.specs.Bytes.{stateIn};
@@ -58,12 +58,12 @@ pub extern "C" fn rcds_crossed(
     crossing::crossed(string, nodes, start, size, crossed)
 }
 
-// The most blocks that one cutting of n bytes gives, and n zero bytes, which have as many. Asked are 23 and 24.
+// The most blocks that one cutting of n bytes gives. Asked is 24.
 #[no_mangle]
-pub extern "C" fn rcds_most_blocks(n: u64, w: u64, h: u64, file: &mut [u8]) -> u64
-    ensures { λ r. ⌜ MostWritten n w h (now (file .entry)) (now (file .exit)) r ⌝ }
+pub extern "C" fn rcds_most_blocks(n: u64, w: u64, h: u64) -> u64
+    ensures { λ r. ⌜ r ≡ mostAnswer n w h ⌝ }
 {
-    most_blocks::most_blocks(n, w, h, file)
+    most_blocks::most_blocks(n, w, h)
 }
 
 // The number of the order that the ids give, each 8 bytes: 2^32 more than how many trails over its pairs come before it, and 2^33 more

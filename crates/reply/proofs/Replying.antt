@@ -10,6 +10,7 @@ use borrow.Author.Tests.{eq-eqb, ne-eqb, leb-true}
 use lib.Dec.{leb}
 use lib.ListN.{length, getD, take, drop}
 use Rattle.rows.specs.Rows.{wordsOf}
+use Rattle.partition.specs.Cuts.{ruleNumber}
 use Rattle.tree.specs.declared.Settings.{Settings}
 use Rattle.node_table.specs.Entries.{idAt, startAt, sizeAt, entryAt}
 use Rattle.shingle.specs.Table.{shinglesIn}
@@ -50,12 +51,12 @@ cells-are q cells =
 
 pub opening-written : (σ : Settings) (string nodes cells : List ℕ) (n root : ℕ) {b a : List ℕ} {r : ℕ} → root ≡ idAt nodes 0
     → Written b a
-    (encode (opening n 1 (σ .window) (σ .«fan_out») (σ .levels) (σ .nominal) (σ .width) (length string) root
+    (encode (opening n ruleNumber (σ .window) (σ .«fan_out») (σ .levels) (σ .nominal) (σ .width) (length string) root
     (firstRows (σ .width * 3 * 5) 0 (wordsOf cells)))) r
     → Written b a (encode (openingOf σ string nodes cells n)) r
 unfolding openingOf openingReply
 opening-written σ string nodes cells n root e w =
-    retold (λ j. opening n 1 (σ .window) (σ .«fan_out») (σ .levels) (σ .nominal) (σ .width) (length string) (e j) (cells-are (σ .width) cells j)) w
+    retold (λ j. opening n ruleNumber (σ .window) (σ .«fan_out») (σ .levels) (σ .nominal) (σ .width) (length string) (e j) (cells-are (σ .width) cells j)) w
 
 -- The bytes of the node of entry k.
 module _ (string nodes : List ℕ) (k start size : ℕ) (s : start ≡ startAt nodes k) (z : size ≡ sizeAt nodes k) where

@@ -29,7 +29,7 @@ pub fn opening(
     message_writer::write_opening(
         buffer,
         session,
-        1,
+        partition::RULE_NUMBER,
         settings.window,
         settings.fan_out,
         settings.levels,

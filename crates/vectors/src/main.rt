@@ -122,6 +122,13 @@ fn refused_lines() {
     tree_line(2, 2, 1, 2, 0, 65537);
 }
 
+// Rulers: the most nodes that a tree may have, and more.
+fn ruler_lines() {
+    tree_line(2, 8, 4, 4096, 6, 7939);
+    tree_line(2, 8, 4, 4096, 6, 7940);
+    tree_line(2, 8, 4, 4096, 6, 9000);
+}
+
 // Sets a sender up for the string. A line with the settings, the string's kind and length, the call's answer, and FNV-1a of each
 // table and of the state after it.
 fn filled_setup_line(
@@ -217,14 +224,21 @@ fn refused_setup_lines() {
     setup_line(2, 2, 1, 2, 65, 0, 65537);
 }
 
+fn ruler_setup_lines() {
+    setup_line(2, 8, 4, 4096, 63, 6, 7939);
+    setup_line(2, 8, 4, 4096, 63, 6, 9000);
+}
+
 fn main() {
     published_lines();
     single_byte_lines();
     zero_hash_lines();
     tree_lines();
     refused_lines();
+    ruler_lines();
     setup_lines();
     refused_setup_lines();
+    ruler_setup_lines();
     openings::lines();
     ranges::lines();
     strata::lines();

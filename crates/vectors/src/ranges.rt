@@ -60,14 +60,14 @@ fn room_line(string: &[u8], nodes: &[u8], start: u64, size: u64, room: usize) {
 fn range_lines(string: &[u8], nodes: &[u8]) {
     room_line(string, nodes, 0, 0, 0);
     room_line(string, nodes, 0, 1, 64);
-    room_line(string, nodes, 1, 1, 64);
-    room_line(string, nodes, 1, 2, 64);
-    room_line(string, nodes, 0, 5, 4);
-    room_line(string, nodes, 0, 5, 3);
-    room_line(string, nodes, 5, 0, 0);
-    room_line(string, nodes, 16, 1, 5);
-    room_line(string, nodes, 16, 2, 64);
-    room_line(string, nodes, 0, 17, 64);
+    room_line(string, nodes, 2, 2, 64);
+    room_line(string, nodes, 3, 2, 64);
+    room_line(string, nodes, 0, 8, 4);
+    room_line(string, nodes, 0, 8, 3);
+    room_line(string, nodes, 8, 0, 0);
+    room_line(string, nodes, 26, 1, 5);
+    room_line(string, nodes, 26, 2, 64);
+    room_line(string, nodes, 0, 27, 64);
     room_line(string, nodes, 18446744073709551615, 2, 64);
 }
 
@@ -81,10 +81,10 @@ fn tree_lines(w: u64, p: u64, levels: u64, nominal: u64, kind: u64, string: &mut
 }
 
 pub fn lines() {
-    let mut short = [0u8; 5];
-    tree_lines(2, 2, 1, 2, 1, &mut short);
-    let mut string = [0u8; 17];
-    tree_lines(2, 2, 4, 16, 1, &mut string);
+    let mut short = [0u8; 8];
+    tree_lines(2, 2, 1, 2, 6, &mut short);
+    let mut string = [0u8; 27];
+    tree_lines(2, 2, 4, 16, 2, &mut string);
     let mut empty = [0u8; 0];
     tree_lines(2, 2, 4, 16, 0, &mut empty);
 }

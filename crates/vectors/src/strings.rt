@@ -1,4 +1,4 @@
-// The strings that the vectors are cut from: six kinds, made from the kind and the length alone.
+// The strings that the vectors are cut from: seven kinds, made from the kind and the length alone.
 
 // The next number of the generator x * 6364136223846793005 + 1442695040888963407 modulo 2^64, by halves: the factor is
 // 1481765933 * 2^32 + 1284865837.
@@ -26,6 +26,20 @@ fn sample_byte(i: usize) -> u8 {
     }
 }
 
+// Byte i of a ruler, whose marks are the lower the further apart they stand: such a string has many nodes at every level.
+fn ruler_byte(i: usize) -> u8 {
+    if i % 560 == 0 {
+        return 0;
+    }
+    if i % 70 == 0 {
+        return 211;
+    }
+    if i % 10 == 0 {
+        return 235;
+    }
+    if i % 2 == 0 { 255 } else { 112 }
+}
+
 // Byte i of a string of the kind, where x is the generator's number for it.
 fn byte_at(kind: u64, i: usize, x: u64) -> u8 {
     let random = (x / 72057594037927936 % 256) as u8;
@@ -34,6 +48,7 @@ fn byte_at(kind: u64, i: usize, x: u64) -> u8 {
         1 => 7,
         3 => random / 64,
         4 => sample_byte(i),
+        6 => ruler_byte(i),
         _ => random,
     }
 }
@@ -53,7 +68,7 @@ fn write_byte(string: &mut [u8], i: usize, kind: u64, x: u64) {
 }
 
 // Fills the string: kind 0 with 0, 1 with 7, 2 with random bytes, 3 with random bytes of four values, 4 with samples,
-// 5 with a random block of 37 bytes over and over.
+// 5 with a random block of 37 bytes over and over, 6 with a ruler.
 pub fn fill(kind: u64, string: &mut [u8]) {
     let mut x = string.len() as u64 % 131072 * 8 + kind % 8;
     let mut i = 0;

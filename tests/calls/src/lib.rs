@@ -24,7 +24,7 @@ extern "C" {
         crossed_len: usize,
     ) -> u64;
 
-    pub fn rcds_most_blocks(n: u64, w: u64, h: u64, file: *mut u8, file_len: usize) -> u64;
+    pub fn rcds_most_blocks(n: u64, w: u64, h: u64) -> u64;
 
     pub fn rcds_trail_number(ids: *const u8, ids_len: usize) -> u64;
 

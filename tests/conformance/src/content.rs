@@ -1,7 +1,7 @@
 //! What the strings of the cases hold.
 
 use crate::random::Random;
-use reference::vectors::{triangle, HASHES_TO_ZERO};
+use reference::vectors::{ruler, triangle, HASHES_TO_ZERO};
 
 /// A kind of content.
 #[derive(Clone, Copy, Debug, PartialEq, Eq)]
@@ -13,6 +13,12 @@ pub enum Content {
     RisingRamp,
     FallingRamp,
     Samples,
+    /// Samples, and zeros after them: "Recorders now preallocate channel files".
+    Preallocated,
+    /// Runs of equal bytes, with others between them.
+    Runs,
+    /// Marks at steps of several lengths: many cuts, and few different blocks.
+    Ruler,
     Repeats,
     Edited,
     /// Eight bytes whose FNV-1a is 0, once or several times.
@@ -20,7 +26,7 @@ pub enum Content {
 }
 
 /// All kinds, in the order of their declaration.
-pub const KINDS: [Content; 10] = [
+pub const KINDS: [Content; 13] = [
     Content::Random,
     Content::Zeros,
     Content::AllEqual,
@@ -28,6 +34,9 @@ pub const KINDS: [Content; 10] = [
     Content::RisingRamp,
     Content::FallingRamp,
     Content::Samples,
+    Content::Preallocated,
+    Content::Runs,
+    Content::Ruler,
     Content::Repeats,
     Content::Edited,
     Content::HashesToZero,
@@ -43,6 +52,13 @@ pub fn string(content: Content, length: usize, random: &mut Random) -> Vec<u8> {
         Content::RisingRamp => ramp(length, random, false),
         Content::FallingRamp => ramp(length, random, true),
         Content::Samples => samples(length, random),
+        Content::Preallocated => {
+            let mut bytes = samples(random.between(0, length as u64) as usize, random);
+            bytes.resize(length, 0);
+            bytes
+        }
+        Content::Runs => runs(length, random),
+        Content::Ruler => ruler(length),
         Content::Repeats => repeats(length, random),
         Content::Edited => edited(length, random),
         Content::HashesToZero => HASHES_TO_ZERO
@@ -90,6 +106,30 @@ fn samples(length: usize, random: &mut Random) -> Vec<u8> {
     bytes
 }
 
+/// A run of one byte, zero more often than others, by turns with bytes of few values or of any.
+fn runs(length: usize, random: &mut Random) -> Vec<u8> {
+    let any = random.number() as u8;
+    let byte = random.one_of(&[0, 0, any]);
+    let longest = random.by_size(1, 400);
+    let mut bytes = Vec::with_capacity(length);
+    while bytes.len() < length {
+        let [others, run] = [0; 2].map(|_: u8| random.by_size(0, longest) as usize);
+        bytes.extend(beside(others, byte, random));
+        bytes.resize(bytes.len() + run, byte);
+    }
+    bytes.truncate(length);
+    bytes
+}
+
+/// Bytes beside a run of one byte: any, or two values of which one is the run's.
+pub fn beside(length: usize, byte: u8, random: &mut Random) -> Vec<u8> {
+    let other = random.number() as u8;
+    match random.between(0, 1) {
+        0 => random.bytes(length),
+        _ => (0..length).map(|_| random.one_of(&[byte, other])).collect(),
+    }
+}
+
 fn repeats(length: usize, random: &mut Random) -> Vec<u8> {
     let period = random.by_size(2, 300) as usize;
     let block = random.bytes(period);
@@ -102,6 +142,8 @@ fn edited(length: usize, random: &mut Random) -> Vec<u8> {
         Content::Zeros,
         Content::AllEqual,
         Content::Samples,
+        Content::Preallocated,
+        Content::Ruler,
         Content::Repeats,
     ]);
     let mut bytes = string(base, length, random);

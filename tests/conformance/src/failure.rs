@@ -27,7 +27,7 @@ pub enum Difference {
     },
     /// What was written is no message of type 3 to 6 with the query's session.
     NoReply,
-    /// A node that is cut into more blocks than it can have; or, where it must have so many, into fewer.
+    /// A node that is cut into more blocks than it can have, or has none.
     Blocks {
         node: usize,
         most: u64,

@@ -12,16 +12,6 @@ const LEVELS: [u64; 8] = [0, 1, 4, 5, 64, 256 + 1, (1 << 32) + 1, u64::MAX];
 /// How many nominal lengths `edge_nominal` has.
 pub const NOMINALS: usize = 8;
 
-/// The settings with which a string of zeros has most nodes for its length.
-pub fn most_nodes() -> Settings {
-    Settings {
-        window: 2,
-        fan_out: 8,
-        levels: 4,
-        nominal: 4_096,
-    }
-}
-
 /// Settings with which short strings of few symbols have blocks of a few bytes at the last level: then a node has
 /// few trails, and the first of several is no rare one.
 pub fn shortest_blocks(random: &mut Random) -> Settings {
@@ -100,7 +90,7 @@ pub fn any_allowed(random: &mut Random) -> Settings {
     with_nominal(w, p, levels, random)
 }
 
-/// Settings with which equal bytes give thousands of nodes.
+/// Settings with which long strings of different bytes have thousands of nodes.
 pub fn many_nodes(random: &mut Random) -> Settings {
     let fan_out = random.between(5, 8);
     let least = fan_out.pow(4);
@@ -113,12 +103,12 @@ pub fn many_nodes(random: &mut Random) -> Settings {
 }
 
 /// A length from `least` to `most`: any; or one at which a level begins to have room for its first
-/// cut, or for one cut more, or just misses it. Equal bytes have k cuts from (k + 1) × h + w on.
+/// cut, or for one cut more, or just misses it. There is room for k cuts from k × (h + 1) + h + w − 1 on.
 pub fn any_length(settings: &Settings, least: usize, most: usize, random: &mut Random) -> usize {
     let rule = settings.rule(random.between(1, settings.levels));
     let most_cuts = random.one_of(&[1, 33]);
     let cuts = random.between(1, most_cuts) as usize;
-    let edge = (cuts + 1) * rule.distance + rule.window;
+    let edge = cuts * (rule.distance + 1) + rule.distance + rule.window - 1;
     let near_edge = edge - 2 + random.between(0, 4) as usize;
     let any = random.by_size(least as u64, most as u64) as usize;
     if random.between(0, 1) == 0 && (least..=most).contains(&near_edge) {

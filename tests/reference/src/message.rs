@@ -34,8 +34,8 @@ pub enum Body {
     None { level: u32, id: u64 },
 }
 
-/// "rule (the number 1), w, p, L, M, q, string length, root id, cells in order with five values
-/// each". Question 12 asks the rule and the settings, so any numbers may stand here.
+/// "rule ..., w, p, L, M, q, string length, root id, cells in order with five values each". Question 12
+/// asks the rule and the settings, so any numbers may stand here.
 #[derive(Clone, Debug, PartialEq, Eq)]
 pub struct Opening {
     pub rule: u32,

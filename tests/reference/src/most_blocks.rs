@@ -1,5 +1,4 @@
-//! The file with most blocks: how many one cutting of a string can give, and a file that gives as many. And how many
-//! nodes a tree can have.
+//! How many blocks one cutting of a string can give at most, and how many nodes a tree can have.
 
 use crate::settings::Settings;
 
@@ -18,12 +17,6 @@ pub fn bound(n: u64, w: u64, h: u64) -> u64 {
     let [n, w, h] = [n, w, h].map(i128::from);
     let larger = (n - w).div_euclid(h).max(1);
     larger.min(MOST_BLOCKS) as u64
-}
-
-/// "A file of zero bytes reaches it." Writes n of them at the front of the buffer, which has room for
-/// them. "what lies past an answer is untouched"
-pub fn write(n: usize, buffer: &mut [u8]) {
-    buffer[..n].fill(0);
 }
 
 /// The most nodes of a tree of n bytes, level by level: "A node's blocks are its children", at most 32 of each node.

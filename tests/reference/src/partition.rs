@@ -1,4 +1,4 @@
-//! How one string is cut into blocks: window values, candidates, cuts.
+//! How one string is cut into blocks by rule 2: window values, candidates, cuts.
 
 use crate::settings::Rule;
 
@@ -79,9 +79,10 @@ pub fn candidate_range(string: &[u8], rule: &Rule) -> std::ops::RangeInclusive<i
     h..=n - w - h
 }
 
-/// "its value is not greater than any value at distance 1 to h on either side"
+/// "a candidate's value must be smaller than each of the h values before it and not greater than the h
+/// after it" (document 02, request 7)
 pub fn is_candidate(values: &[u64], i: usize, rule: &Rule) -> bool {
-    (1..=rule.distance).all(|d| values[i] <= values[i - d] && values[i] <= values[i + d])
+    (1..=rule.distance).all(|d| values[i] < values[i - d] && values[i] <= values[i + d])
 }
 
 /// "From the left, a candidate becomes a cut if it is the first, or at least h after the last

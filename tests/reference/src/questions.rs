@@ -1,5 +1,5 @@
-//! The questions that a setup asks, those of a byte range, and those of the file with most blocks. A
-//! function answers `true` for a yes.
+//! The questions that a setup asks, those of a byte range, and that of the most blocks. A function
+//! answers `true` for a yes.
 
 use crate::crossed::{self, Crossed};
 use crate::most_blocks::MOST_DISTANCE;
@@ -84,12 +84,7 @@ pub fn answer_allowed(crossed: &[Crossed], table: &[u8]) -> bool {
     crossed.len() * crossed::ENTRY_BYTES <= table.len()
 }
 
-/// "23, buffer at least n long". n as it is, any number of 64 bits.
-pub fn buffer_allowed(n: u64, buffer: &[u8]) -> bool {
-    buffer.len() as u64 >= n
-}
-
-/// "24, w 2 to 12, h 1 to 32,768 and n at most 65,536"
+/// "24, w 2 to 12, h 1 to 32,768 and n at most 65,536". n as it is, any number of 64 bits.
 pub fn cutting_allowed(n: u64, w: u64, h: u64) -> bool {
     (2..=12).contains(&w) && (1..=MOST_DISTANCE).contains(&h) && n <= MOST_BYTES as u64
 }

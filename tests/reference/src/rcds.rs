@@ -85,19 +85,13 @@ pub fn rcds_crossed(string: &[u8], nodes: &[u8], start: u64, length: u64, table:
     ACCEPTED + answer.len() as u64
 }
 
-/// `rcds_most_blocks`: how many blocks one cutting of n bytes can give, and a file that gives as many to
-/// the front of the buffer. Asks 23 and 24, in this order.
+/// `rcds_most_blocks`: how many blocks one cutting of n bytes can give at most. Asks 24.
 ///
-/// "Checks: 23, ..., first of all; 24, ..., second; buffer unchanged by either."
-pub fn rcds_most_blocks(n: u64, w: u64, h: u64, buffer: &mut [u8]) -> u64 {
-    if !questions::buffer_allowed(n, buffer) {
-        return 23;
-    }
+/// "so the call returns the bound, borrows no buffer, and 23 never occurs again" (document 02, request 7)
+pub fn rcds_most_blocks(n: u64, w: u64, h: u64) -> u64 {
     if !questions::cutting_allowed(n, w, h) {
         return 24;
     }
-    // After 23 it is a number of bytes of the buffer.
-    most_blocks::write(n as usize, buffer);
     ACCEPTED + most_blocks::bound(n, w, h)
 }
 

@@ -52,6 +52,26 @@ pub const REFUSED: [[u64; 6]; 10] = [
     [2, 2, 1, 2, 0, 65_537],
 ];
 
+/// The settings that rulers are made for: with them the marks of each kind stand a little further apart than the h of
+/// one level, so that cuts are many.
+pub const RULED: Settings = Settings {
+    window: 2,
+    fan_out: 8,
+    levels: 4,
+    nominal: 4_096,
+};
+
+/// The bytes of the shortest ruler with 4,096 nodes, which question 8 just allows, and those of one with too many.
+pub const FULL_RULER: usize = 7_939;
+pub const LONG_RULER: usize = 9_000;
+
+/// w, p, L, M, kind, length of rulers that are cut. That of one byte more has 4,096 nodes too.
+pub const RULERS: [[u64; 6]; 3] = [
+    [2, 8, 4, 4_096, 6, FULL_RULER as u64],
+    [2, 8, 4, 4_096, 6, FULL_RULER as u64 + 1],
+    [2, 8, 4, 4_096, 6, LONG_RULER as u64],
+];
+
 /// w, p, L, M, q of the settings with which senders are set up.
 pub const SETUPS: [[u64; 5]; 5] = [
     [2, 2, 1, 2, 64],
@@ -74,13 +94,19 @@ pub const REFUSED_SETUPS: [[u64; 7]; 5] = [
     [2, 2, 1, 2, 65, 0, 65_537],
 ];
 
+/// w, p, L, M, q, kind, length of the setups for rulers, of 4,096 nodes and of too many.
+pub const RULER_SETUPS: [[u64; 7]; 2] = [
+    [2, 8, 4, 4_096, 63, 6, FULL_RULER as u64],
+    [2, 8, 4, 4_096, 63, 6, LONG_RULER as u64],
+];
+
 /// w, p, L, M, q of the openings that are refused before the sketch is opened, of 100 bytes of kind 2.
 pub const REFUSED_OPENINGS: [[u64; 5]; 3] = [[2, 2, 0, 2, 64], [2, 2, 5, 32, 64], [2, 2, 1, 2, 65]];
 
 /// w, p, L, M, kind, length of the trees whose nodes are printed one by one, and crossed by ranges.
 pub const CROSSED_TREES: [[u64; 6]; 3] = [
-    [2, 2, 1, 2, 1, 5],
-    [2, 2, 4, 16, 1, 17],
+    [2, 2, 1, 2, 6, 8],
+    [2, 2, 4, 16, 2, 27],
     [2, 2, 4, 16, 0, 0],
 ];
 
@@ -88,14 +114,14 @@ pub const CROSSED_TREES: [[u64; 6]; 3] = [
 pub const RANGES: [[u64; 3]; 11] = [
     [0, 0, 0],
     [0, 1, 64],
-    [1, 1, 64],
-    [1, 2, 64],
-    [0, 5, 4],
-    [0, 5, 3],
-    [5, 0, 0],
-    [16, 1, 5],
-    [16, 2, 64],
-    [0, 17, 64],
+    [2, 2, 64],
+    [3, 2, 64],
+    [0, 8, 4],
+    [0, 8, 3],
+    [8, 0, 0],
+    [26, 1, 5],
+    [26, 2, 64],
+    [0, 27, 64],
     [u64::MAX, 2, 64],
 ];
 
@@ -113,30 +139,29 @@ pub const REFUSED_STRATA: [[u64; 5]; 2] = [[2, 2, 1, 2, 65], [2, 2, 5, 32, 64]];
 /// How many bytes of a table of strata are lent past its 192 cells.
 pub const PAST_THE_STRATA: usize = 8;
 
-/// n, w, h and the bytes of the buffer of the files with most blocks.
-pub const MOST: [[u64; 4]; 19] = [
-    [0, 2, 1, 0],
-    [0, 2, 1, 3],
-    [1, 12, 32_768, 1],
-    [5, 2, 2, 5],
-    [6, 2, 2, 9],
-    [100, 3, 7, 100],
-    [100, 3, 7, 99],
-    [66, 2, 2, 66],
-    [68, 2, 2, 70],
-    [65_536, 12, 32_768, 65_537],
-    [65_536, 2, 32_767, 65_536],
-    [65_536, 12, 2, 65_536],
-    [65_537, 2, 1, 65_537],
-    [7, 1, 1, 7],
-    [7, 13, 1, 7],
-    [7, 2, 0, 7],
-    [7, 2, 32_769, 7],
-    [7, 13, 0, 6],
-    [u64::MAX, 2, 1, 7],
+/// n, w and h of the most blocks.
+pub const MOST: [[u64; 3]; 18] = [
+    [0, 2, 1],
+    [1, 12, 32_768],
+    [5, 2, 2],
+    [6, 2, 2],
+    [9, 2, 2],
+    [100, 3, 7],
+    [66, 2, 2],
+    [68, 2, 2],
+    [65_536, 12, 32_768],
+    [65_536, 2, 32_767],
+    [65_536, 12, 2],
+    [65_537, 2, 1],
+    [7, 1, 1],
+    [7, 13, 1],
+    [7, 2, 0],
+    [7, 2, 32_769],
+    [7, 13, 0],
+    [u64::MAX, 2, 1],
 ];
 
-/// The bytes of the tables, of the state and of the buffers before each call.
+/// The bytes of the tables and of the state before each call.
 pub const BEFORE: u8 = 170;
 
 /// One step of the linear congruential generator modulo 2^64.
@@ -166,6 +191,18 @@ pub fn triangle(k: usize) -> usize {
     }
 }
 
+/// Byte i of a ruler: a mark at every 560th, 70th, 10th and 2nd byte, or what lies between marks.
+fn ruler_byte(i: usize) -> u8 {
+    let marks = [(560, 0), (70, 211), (10, 235), (2, 255)];
+    let mark = marks.into_iter().find(|(step, _)| i % step == 0);
+    mark.map_or(112, |(_, byte)| byte)
+}
+
+/// The ruler of a length: the string of kind 6.
+pub fn ruler(length: usize) -> Vec<u8> {
+    (0..length).map(ruler_byte).collect()
+}
+
 /// The string of a kind and a length.
 pub fn string(kind: u64, length: usize) -> Vec<u8> {
     let random = random_bytes(8 * length as u64 + kind, length);
@@ -177,7 +214,8 @@ pub fn string(kind: u64, length: usize) -> Vec<u8> {
         4 if i % 2 == 0 => (triangle(i / 2) / 256) as u8,
         4 => (triangle(i / 2) % 256) as u8,
         5 => random[i % 37],
-        _ => panic!("kinds are 0 to 5"),
+        6 => ruler_byte(i),
+        _ => panic!("kinds are 0 to 6"),
     };
     (0..length).map(byte).collect()
 }
@@ -231,7 +269,7 @@ pub fn tree_lines() -> Vec<String> {
             lines.push(tree_line(settings, kind as u64, length));
         }
     }
-    for [w, p, levels, nominal, kind, length] in REFUSED {
+    for [w, p, levels, nominal, kind, length] in REFUSED.into_iter().chain(RULERS) {
         lines.push(tree_line([w, p, levels, nominal], kind, length as usize));
     }
     lines
@@ -273,7 +311,8 @@ pub fn setup_lines() -> Vec<String> {
             }
         }
     }
-    for [w, p, levels, nominal, width, kind, length] in REFUSED_SETUPS {
+    for case in REFUSED_SETUPS.into_iter().chain(RULER_SETUPS) {
+        let [w, p, levels, nominal, width, kind, length] = case;
         lines.push(setup_line(
             [w, p, levels, nominal, width],
             kind,
@@ -429,14 +468,12 @@ pub fn strata_lines() -> Vec<String> {
     lines
 }
 
-/// The line of one file with most blocks: what is asked, the answer, and the whole buffer.
-fn most_line([n, w, h, room]: [u64; 4]) -> String {
-    let mut buffer = vec![BEFORE; room as usize];
-    let answer = rcds_most_blocks(n, w, h, &mut buffer);
-    line("most", &[n, w, h, room, answer, fnv1a(&buffer)])
+/// The line of the most blocks: what is asked, and the answer.
+fn most_line([n, w, h]: [u64; 3]) -> String {
+    line("most", &[n, w, h, rcds_most_blocks(n, w, h)])
 }
 
-/// The lines of all files with most blocks.
+/// The lines of all most blocks.
 pub fn most_lines() -> Vec<String> {
     MOST.map(most_line).to_vec()
 }

@@ -6,7 +6,7 @@ use reference::settings::Settings;
 use reference::tree::{tree, Node};
 use reference::vectors::{string, SETTINGS};
 
-/// At level 1, h = 2 and cuts are 2 apart; at level 2, h = 1.
+/// At level 1, h = 2 and s = 8; at level 2, h = 1 and s = 4.
 const TWO_LEVELS: Settings = Settings {
     window: 2,
     fan_out: 2,
@@ -14,30 +14,30 @@ const TWO_LEVELS: Settings = Settings {
     nominal: 4,
 };
 
-/// Ten equal bytes. Every position with room on both sides is a candidate: at level 1 from 2 to 6, so cuts
-/// 2, 4 and 6. At level 2 two bytes have no cut, and four have one at 1.
-const TEN: [u8; 10] = [7; 10];
+/// 03 05 09 over and over. Values at level 1 are 0, 6 and 4 over and over, and a cut may be from 2 to 10: cuts 3, 6 and 9.
+/// At level 2 three bytes have no cut, and the last five have values 0, 2, 0, 0, so one at 2.
+const FOURTEEN: [u8; 14] = [3, 5, 9, 3, 5, 9, 3, 5, 9, 3, 5, 9, 3, 5];
 
-/// Level, start, length, parent and place of the tree of ten bytes.
+/// Level, start, length, parent and place of the tree of fourteen bytes.
 const BY_HAND: [(u64, usize, usize, usize, usize); 10] = [
-    (0, 0, 10, 0, 0),
-    (1, 0, 2, 0, 0),
-    (2, 0, 2, 1, 0),
-    (1, 2, 2, 0, 1),
-    (2, 2, 2, 3, 0),
-    (1, 4, 2, 0, 2),
-    (2, 4, 2, 5, 0),
-    (1, 6, 4, 0, 3),
-    (2, 6, 1, 7, 0),
-    (2, 7, 3, 7, 1),
+    (0, 0, 14, 0, 0),
+    (1, 0, 3, 0, 0),
+    (2, 0, 3, 1, 0),
+    (1, 3, 3, 0, 1),
+    (2, 3, 3, 3, 0),
+    (1, 6, 3, 0, 2),
+    (2, 6, 3, 5, 0),
+    (1, 9, 5, 0, 3),
+    (2, 9, 2, 7, 0),
+    (2, 11, 3, 7, 1),
 ];
 
 fn table(nodes: &[Node]) -> Vec<u8> {
     nodes.iter().flat_map(node_table::entry).collect()
 }
 
-fn ten() -> Vec<Node> {
-    tree(&TWO_LEVELS, &TEN)
+fn fourteen() -> Vec<Node> {
+    tree(&TWO_LEVELS, &FOURTEEN)
 }
 
 /// Node and parent of each entry of the answer, or the question that refuses the range. There is room for
@@ -56,9 +56,9 @@ fn crossed(string: usize, nodes: &[u8], start: u64, length: u64) -> Result<Vec<(
 }
 
 #[test]
-fn parents_and_places_of_ten_bytes() {
+fn parents_and_places_of_fourteen_bytes() {
     let all = |node: &Node| (node.level, node.start, node.length, node.parent, node.place);
-    let nodes: Vec<_> = ten().iter().map(all).collect();
+    let nodes: Vec<_> = fourteen().iter().map(all).collect();
     assert_eq!(nodes, BY_HAND);
 }
 
@@ -70,35 +70,35 @@ fn parents_and_places_of_an_empty_string() {
 }
 
 #[test]
-fn ranges_of_ten_bytes() {
-    let nodes = table(&ten());
-    let ask = |start, length| crossed(10, &nodes, start, length);
+fn ranges_of_fourteen_bytes() {
+    let nodes = table(&fourteen());
+    let ask = |start, length| crossed(14, &nodes, start, length);
     // A block exactly: those it touches on either side are not crossed.
-    assert_eq!(ask(2, 2), Ok(vec![(0, 0), (3, 0), (4, 3)]));
+    assert_eq!(ask(3, 3), Ok(vec![(0, 0), (3, 0), (4, 3)]));
     // One byte of each of two blocks.
-    assert_eq!(ask(1, 2), Ok(vec![(0, 0), (1, 0), (2, 1), (3, 0), (4, 3)]));
-    // One byte: the whole block 6, the first and the last of block 7.
-    assert_eq!(ask(6, 1), Ok(vec![(0, 0), (7, 0), (8, 7)]));
-    assert_eq!(ask(7, 1), Ok(vec![(0, 0), (7, 0), (9, 7)]));
-    assert_eq!(ask(9, 1), Ok(vec![(0, 0), (7, 0), (9, 7)]));
+    assert_eq!(ask(2, 2), Ok(vec![(0, 0), (1, 0), (2, 1), (3, 0), (4, 3)]));
+    // One byte: the last of node 8, the first and the last of node 9.
+    assert_eq!(ask(10, 1), Ok(vec![(0, 0), (7, 0), (8, 7)]));
+    assert_eq!(ask(11, 1), Ok(vec![(0, 0), (7, 0), (9, 7)]));
+    assert_eq!(ask(13, 1), Ok(vec![(0, 0), (7, 0), (9, 7)]));
     // All of them.
     let all = [0, 0, 1, 0, 3, 0, 5, 0, 7, 7];
     let all = all
         .iter()
         .enumerate()
         .map(|(k, &parent)| (k as u64, parent));
-    assert_eq!(ask(0, 10), Ok(all.collect()));
+    assert_eq!(ask(0, 14), Ok(all.collect()));
 }
 
 #[test]
 fn empty_ranges() {
-    let nodes = table(&ten());
-    for start in 0..=10 {
-        assert_eq!(crossed(10, &nodes, start, 0), Ok(vec![]));
-        let answer = rcds_crossed(&TEN, &nodes, start, 0, &mut []);
+    let nodes = table(&fourteen());
+    for start in 0..=14 {
+        assert_eq!(crossed(14, &nodes, start, 0), Ok(vec![]));
+        let answer = rcds_crossed(&FOURTEEN, &nodes, start, 0, &mut []);
         assert_eq!(answer, ACCEPTED, "an empty answer fits an empty table");
     }
-    assert_eq!(crossed(10, &nodes, 11, 0), Err(21));
+    assert_eq!(crossed(14, &nodes, 15, 0), Err(21));
     let empty = table(&tree(&TWO_LEVELS, &[]));
     assert_eq!(crossed(0, &empty, 0, 0), Ok(vec![]));
     assert_eq!(crossed(0, &empty, 0, 1), Err(21));
@@ -106,37 +106,37 @@ fn empty_ranges() {
 
 #[test]
 fn sums_do_not_wrap() {
-    let nodes = table(&ten());
+    let nodes = table(&fourteen());
     for (start, length) in [
-        (0, 11),
-        (10, 1),
-        (9, 2),
+        (0, 15),
+        (14, 1),
+        (13, 2),
         (u64::MAX, 1),
         (u64::MAX, 2),
-        (u64::MAX, 11),
+        (u64::MAX, 15),
         (2, u64::MAX),
         (u64::MAX, u64::MAX),
         (1 << 63, 1 << 63),
         ((1 << 32) + 2, 1),
         (2, (1 << 32) + 1),
     ] {
-        assert_eq!(crossed(10, &nodes, start, length), Err(21));
-        let answer = rcds_crossed(&TEN, &nodes, start, length, &mut []);
+        assert_eq!(crossed(14, &nodes, start, length), Err(21));
+        let answer = rcds_crossed(&FOURTEEN, &nodes, start, length, &mut []);
         assert_eq!(answer, 21, "21 comes before 22");
     }
 }
 
 #[test]
 fn room_for_the_answer() {
-    let nodes = table(&ten());
+    let nodes = table(&fourteen());
     for room in 0..48 {
         let mut table = vec![170; room];
-        assert_eq!(rcds_crossed(&TEN, &nodes, 2, 2, &mut table), 22);
+        assert_eq!(rcds_crossed(&FOURTEEN, &nodes, 3, 3, &mut table), 22);
         assert_eq!(table, vec![170; room]);
     }
     let mut table = vec![170; 49];
     assert_eq!(
-        rcds_crossed(&TEN, &nodes, 2, 2, &mut table[..48]),
+        rcds_crossed(&FOURTEEN, &nodes, 3, 3, &mut table[..48]),
         ACCEPTED + 3
     );
     let last = [0, 0, 0, 0, 0, 0, 0, 4, 0, 0, 0, 0, 0, 0, 0, 3, 170];
@@ -146,43 +146,41 @@ fn room_for_the_answer() {
 #[test]
 fn tables_that_no_setup_left() {
     // "read up to its first id 0"
-    let mut nodes = ten();
+    let mut nodes = fourteen();
     nodes[4].id = 0;
     let ended = Ok(vec![(0, 0), (1, 0), (2, 1), (3, 0)]);
-    assert_eq!(crossed(10, &table(&nodes), 0, 10), ended);
-    // Outside the string: of 9 bytes the root, and what ends with it, are passed over, and keep their places.
+    assert_eq!(crossed(14, &table(&nodes), 0, 14), ended);
+    // Outside the string: of 13 bytes the root, and what ends with it, are passed over, and keep their places.
     let passed_over = Ok(vec![(5, 0), (6, 5), (8, 7)]);
-    assert_eq!(crossed(9, &table(&ten()), 5, 4), passed_over);
+    assert_eq!(crossed(13, &table(&fourteen()), 8, 4), passed_over);
     // Any level, parent and place is read as given.
-    let mut nodes = ten();
+    let mut nodes = fourteen();
     (nodes[4].level, nodes[4].parent, nodes[4].place) = (7, 4_095, 31);
     let given = Ok(vec![(0, 0), (3, 0), (4, 4_095)]);
-    assert_eq!(crossed(10, &table(&nodes), 3, 1), given);
+    assert_eq!(crossed(14, &table(&nodes), 4, 1), given);
     // A node without bytes shares none, wherever it stands.
-    let mut nodes = ten();
-    (nodes[9].start, nodes[9].length) = (2, 0);
-    assert_eq!(crossed(10, &table(&nodes), 7, 3), Ok(vec![(0, 0), (7, 0)]));
+    let mut nodes = fourteen();
+    (nodes[9].start, nodes[9].length) = (4, 0);
+    assert_eq!(crossed(14, &table(&nodes), 11, 3), Ok(vec![(0, 0), (7, 0)]));
     assert_eq!(
-        crossed(10, &table(&nodes), 0, 4).map(|answer| answer.len()),
+        crossed(14, &table(&nodes), 0, 6).map(|answer| answer.len()),
         Ok(5)
     );
 }
 
 #[test]
 fn tables_of_any_length() {
-    let nodes = table(&ten());
+    let nodes = table(&fourteen());
     for length in 0..=nodes.len() {
-        // Whole entries alone are read; the last two nodes are not crossed.
-        let entries = (length as u64 / 16).min(8);
-        let first = crossed(10, &nodes[..length], 0, 7);
+        // Whole entries alone are read; the last node is not crossed.
+        let entries = (length as u64 / 16).min(9);
+        let first = crossed(14, &nodes[..length], 0, 11);
         let first = first.map(|answer| answer.iter().map(|(node, _)| *node).collect());
-        let expected: Vec<u64> = (0..entries)
-            .chain((length / 16 >= 9).then_some(8))
-            .collect();
+        let expected: Vec<u64> = (0..entries).collect();
         assert_eq!(first, Ok(expected), "{length} bytes");
     }
     // 4,097 entries are read to the end, of a string of more than 65,536 bytes.
-    let mut many = vec![ten()[1]; 4_097];
+    let mut many = vec![fourteen()[1]; 4_097];
     (many[4_096].start, many[4_096].length) = (66_000, 100);
     let last = Ok(vec![(4_096, 0)]);
     assert_eq!(crossed(66_100, &table(&many), 66_099, 1), last);
@@ -213,7 +211,7 @@ fn children_fill_their_parent() {
             levels,
             nominal,
         };
-        for (kind, length) in (0..=5).flat_map(|kind| [(kind, 0), (kind, 100), (kind, 1_000)]) {
+        for (kind, length) in (0..=6).flat_map(|kind| [(kind, 0), (kind, 100), (kind, 1_000)]) {
             let nodes = tree(&settings, &string(kind, length));
             assert_eq!((nodes[0].parent, nodes[0].place), (0, 0));
             let parents = (0..nodes.len()).filter(|&k| nodes[k].level < levels);

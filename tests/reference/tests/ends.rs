@@ -24,10 +24,13 @@ const WIDTH: u64 = 64;
 /// Two blocks: the first two bytes, and the other four.
 const SIX: [u8; 6] = [0x00, 0x03, 0x00, 0x00, 0x01, 0x00];
 
-/// Five blocks: four of a byte each, a a b a, and the other three. Their pairs are those of a b a a and the
+/// Five blocks: four of two bytes each, a a b a, and the other three. Their pairs are those of a b a a and the
 /// other three too. In the first string a b a a comes after the true order, in the second before it.
-const FIRST_OF_TWO: [u8; 7] = [0x01, 0x01, 0x00, 0x01, 0x00, 0x01, 0x00];
-const SECOND_OF_TWO: [u8; 7] = [0x03, 0x03, 0x01, 0x03, 0x01, 0x03, 0x00];
+const FIRST_OF_TWO: [u8; 11] = [1, 255, 1, 255, 0, 0, 1, 255, 0, 0, 0];
+const SECOND_OF_TWO: [u8; 11] = [1, 255, 1, 255, 1, 0, 1, 255, 0, 0, 0];
+
+/// 01 ff and ff 01 have the values 0 and 3, so that the blocks are 01 ff, 01 ff, 01 ff and 01 ff 01.
+const TURNS: [u8; 9] = [1, 255, 1, 255, 1, 255, 1, 255, 1];
 
 fn memory(string: &[u8]) -> Lent {
     Lent {
@@ -94,10 +97,11 @@ fn opened() -> (Receiver, Lent, Vec<u8>) {
 /// The same of another string.
 fn opened_of(string: &[u8]) -> (Receiver, Lent, Vec<u8>) {
     let (mut state, mut lent) = receiver(&[0xff; 3], 5);
-    let mut output = vec![9; 8];
+    let before = vec![9; string.len() + 2];
+    let mut output = before.clone();
     let opening = replied(&sender(string), &message(Body::OpeningQuery));
     let answer = take(&mut state, &mut lent, &opening, &mut output);
-    assert_eq!((answer, &output), (Answer::Waiting, &vec![9; 8]));
+    assert_eq!((answer, &output), (Answer::Waiting, &before));
     (state, lent, output)
 }
 
@@ -130,7 +134,7 @@ fn replies_over_six_bytes() {
     let lent = sender(&SIX);
     let (root, left, right) = (block_id(&SIX), block_id(&SIX[..2]), block_id(&SIX[2..]));
     let opening = message(Body::Opening(Opening {
-        rule: 1,
+        rule: 2,
         window: 2,
         fan_out: 2,
         levels: 1,
@@ -165,19 +169,18 @@ fn replies_over_six_bytes() {
 
 #[test]
 fn references_count_these_children_only() {
-    // Six bytes 07 are cut into 07, 07, 07 and 07 07 07.
-    let lent = sender(&[7; 6]);
+    let lent = sender(&TURNS);
     let list = lent.shingle_list();
-    let [one, three] = [1, 3].map(|count| block_id(&vec![7; count]));
+    let [two, three] = [2, 3].map(|count| block_id(&TURNS[..count]));
     let index = |pair| list.iter().position(|s| s.pair() == pair).expect("listed") as u32;
     let mut references = [
-        (index((1, 0, one)), 1),
-        (index((1, one, one)), 2),
-        (index((1, one, three)), 1),
+        (index((1, 0, two)), 1),
+        (index((1, two, two)), 2),
+        (index((1, two, three)), 1),
     ];
     // "References now rise by index" (document 02, request 2).
     references.sort();
-    let root = block_id(&[7; 6]);
+    let root = block_id(&TURNS);
     let order = composition(root, None, &references);
     assert_eq!(replied(&lent, &query(0, root)), order);
 }
@@ -201,10 +204,10 @@ fn a_number_where_there_are_others() {
         // One block, of some bytes or of none; equal blocks, and then one that is longer.
         (&[1, 2], None),
         (&[], None),
-        (&[7; 4], None),
-        (&[7; 6], None),
+        (&TURNS[..5], None),
+        (&TURNS, None),
         // The first of the two without its end is a, a and the other three.
-        (&FIRST_OF_TWO[..5], None),
+        (&FIRST_OF_TWO[..7], None),
     ];
     for (string, number) in cases {
         let root = block_id(string);
@@ -517,14 +520,31 @@ fn questions_12_to_14_of_an_opening() {
         (state, lent, vec![9; bytes])
     };
     let wrong = |opening: &mut Opening| (opening.length, opening.cells[0][0]) = (65_537, 5);
-    let rule = |opening: &mut Opening| opening.rule = 2;
     let nominal = |opening: &mut Opening| opening.nominal = 3;
-    refused_by(12, fresh(6), &other_opening(|o| (wrong(o), rule(o)).1));
     refused_by(12, fresh(6), &other_opening(|o| (wrong(o), nominal(o)).1));
     refused_by(13, fresh(6), &other_opening(wrong));
     refused_by(13, fresh(70_000), &other_opening(wrong));
     refused_by(13, fresh(5), &other_opening(|_| ()));
     refused_by(14, fresh(6), &other_opening(|o| o.cells[0][0] = 5));
+}
+
+/// "The opening's rule number becomes 2, and ends with rule 1 meet refusal 12." (document 02, request 7) Of an
+/// opening that has nothing else wrong, and of one that 13 and 14 would refuse: 12 comes first.
+#[test]
+fn rules_that_are_not_2() {
+    for rule in [0, 1, 3, (1 << 28) - 1] {
+        let other = other_opening(|opening| opening.rule = rule);
+        assert_eq!(rcds_message_type(&other), ACCEPTED + 3);
+        let (mut state, mut lent) = receiver(&[0xff; 3], 5);
+        refused_by(12, (state.clone(), lent.clone(), vec![9; 6]), &other);
+        let worse = other_opening(|opening| {
+            (opening.rule, opening.length, opening.cells[0][0]) = (rule, 65_537, 5);
+        });
+        refused_by(12, (state.clone(), lent.clone(), vec![9; 6]), &worse);
+        let own = other_opening(|opening| opening.rule = 2);
+        let answer = take(&mut state, &mut lent, &own, &mut [9; 6]);
+        assert_eq!(answer, Answer::Waiting);
+    }
 }
 
 #[test]
@@ -639,7 +659,7 @@ fn no_number_where_two_trails_exist() {
             let answer = take(&mut state, &mut lent, &formed(Some(taken)), &mut output);
             assert_eq!(answer, Answer::Waiting);
             let ids: Vec<u64> = state.pile.iter().rev().map(|node| node.id).collect();
-            let [a, b] = [&string[..1], &string[2..3]].map(block_id);
+            let [a, b] = [&string[..2], &string[4..6]].map(block_id);
             let order = match taken == number {
                 true => [a, a, b, a],
                 false => [a, b, a, a],
@@ -687,7 +707,11 @@ fn sessions_of_two_trails() {
                 &mut output,
             );
         }
-        assert_eq!((answer, &output[..7]), (Answer::Handed(7), &string[..]));
+        let length = string.len();
+        assert_eq!(
+            (answer, &output[..length]),
+            (Answer::Handed(length as u64), &string[..])
+        );
     }
 }
 

@@ -1,4 +1,4 @@
-//! Document 01, "Checked by hand", and the published values of FNV-1a.
+//! Document 01, "Checked by hand", by rule 2, and the published values of FNV-1a.
 
 use reference::fnv::{block_id, fnv1a, fnv1a_from, BASIS};
 use reference::node_table;
@@ -6,7 +6,7 @@ use reference::partition::{blocks, cuts, window_remainder, window_value, window_
 use reference::rcds::{rcds_tree, ACCEPTED};
 use reference::settings::{Rule, Settings};
 use reference::tree::{tree, Node};
-use reference::vectors::HASHES_TO_ZERO;
+use reference::vectors::{ruler, FULL_RULER, HASHES_TO_ZERO, LONG_RULER, RULED};
 
 /// "With w=2, p=2, L=1, M=2"
 const SMALLEST: Settings = Settings {
@@ -14,14 +14,6 @@ const SMALLEST: Settings = Settings {
     fan_out: 2,
     levels: 1,
     nominal: 2,
-};
-
-/// The settings with which zeros give most nodes.
-const MOST_NODES: Settings = Settings {
-    window: 2,
-    fan_out: 8,
-    levels: 4,
-    nominal: 4_096,
 };
 
 fn places(nodes: &[Node]) -> Vec<(u64, usize, usize)> {
@@ -44,7 +36,7 @@ fn distance_is_1_and_modulus_is_4() {
 #[test]
 fn every_level_has_its_own_distance_and_modulus() {
     let rules: Vec<(usize, u64)> = (1..=4)
-        .map(|level| MOST_NODES.rule(level))
+        .map(|level| RULED.rule(level))
         .map(|rule| (rule.distance, rule.modulus))
         .collect();
     assert_eq!(rules, [(512, 8_192), (64, 1_024), (8, 128), (1, 16)]);
@@ -80,20 +72,36 @@ fn six_bytes() {
     assert_eq!(nodes[2].id, fnv1a(&string[2..]));
 }
 
+/// "The starred four and five bytes 07 now have no cut." (document 02, request 7) "Three: none." "Empty: one
+/// empty block per level."
 #[test]
 fn runs_of_07() {
     let rule = SMALLEST.rule(1);
-    assert_eq!(cuts(&[7; 5], &rule), [1, 2]);
-    assert_eq!(cuts(&[7; 4], &rule), [1]);
-    assert_eq!(cuts(&[7; 3], &rule), []);
+    for length in [0, 3, 4, 5] {
+        assert_eq!(cuts(&vec![7; length], &rule), [], "{length} bytes");
+    }
 }
 
+/// 01 ff has value 0 and ff 01 has value 3: 512, and 65,536 − 65,521 = 15, modulo 4. So cuts are 2, 4, 6 and so on,
+/// to three bytes before the end.
 #[test]
 fn no_more_than_31_cuts() {
     let rule = SMALLEST.rule(1);
-    assert_eq!(cuts(&[7; 33], &rule).len(), 30);
-    assert_eq!(cuts(&[7; 34], &rule).len(), 31);
-    assert_eq!(cuts(&[7; 35], &rule).len(), 31);
+    let turns: Vec<u8> = [1, 255].into_iter().cycle().take(99).collect();
+    assert_eq!(window_values(&turns[..9], &rule), [0, 3, 0, 3, 0, 3, 0, 3]);
+    assert_eq!(cuts(&turns[..9], &rule), [2, 4, 6]);
+    for (length, count) in [
+        (8, 2),
+        (9, 3),
+        (64, 30),
+        (65, 31),
+        (66, 31),
+        (67, 31),
+        (99, 31),
+    ] {
+        let string = &turns[..length];
+        assert_eq!(cuts(string, &rule).len(), count, "{length} bytes");
+    }
 }
 
 #[test]
@@ -102,7 +110,7 @@ fn empty_string_is_one_empty_block_for_each_level() {
         let settings = Settings {
             levels,
             nominal: 4_096,
-            ..MOST_NODES
+            ..RULED
         };
         let nodes = tree(&settings, &[]);
         assert_eq!(nodes.len() as u64, levels + 1);
@@ -174,16 +182,24 @@ fn the_table_is_zero_past_the_last_entry() {
     assert!(table[48..].iter().all(|&byte| byte == 0));
 }
 
+/// One byte less than the shortest has two nodes less, and three bytes more one node more.
 #[test]
-fn zeros_with_4096_nodes_and_with_more() {
+fn rulers_with_4096_nodes_and_with_more() {
     let mut table = vec![170; 65_536];
-    assert_eq!(
-        rcds_tree(&MOST_NODES, &[0; 4_527], &mut table),
-        ACCEPTED + 4_096
-    );
-    assert_eq!(node_table::read(&table).len(), 4_096);
-    assert_eq!(rcds_tree(&MOST_NODES, &[0; 65_536], &mut table), 8);
-    assert!(table.iter().all(|&byte| byte == 0));
+    for (length, count) in [(FULL_RULER - 1, 4_094), (FULL_RULER, 4_096), (7_941, 4_096)] {
+        assert_eq!(
+            rcds_tree(&RULED, &ruler(length), &mut table),
+            ACCEPTED + count
+        );
+        assert_eq!(node_table::read(&table).len() as u64, count);
+    }
+    for (length, count) in [(7_942, 4_097), (LONG_RULER, 4_644), (65_536, 10_402)] {
+        let string = ruler(length);
+        assert_eq!(tree(&RULED, &string).len(), count, "{length} bytes");
+        table.fill(170);
+        assert_eq!(rcds_tree(&RULED, &string, &mut table), 8);
+        assert!(table.iter().all(|&byte| byte == 0));
+    }
 }
 
 #[test]

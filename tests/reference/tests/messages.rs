@@ -2,6 +2,7 @@
 
 use reference::message::{encode, parse, Body, Message, Opening};
 use reference::rcds::{rcds_message_type, ACCEPTED};
+use reference::reply::RULE;
 use reference::word::{parts, read, value, write, Reference, Word};
 
 const ID: u64 = 0x0102_0304_0506_0708;
@@ -21,7 +22,7 @@ fn with(body: Body) -> Message {
 
 fn opening(width: u32) -> Message {
     with(Body::Opening(Opening {
-        rule: 1,
+        rule: RULE,
         window: 2,
         fan_out: 2,
         levels: 1,

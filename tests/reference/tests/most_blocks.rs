@@ -1,5 +1,5 @@
-//! Change request 6: the bound by hand, the file that reaches it, and strings that were searched for one that
-//! goes past it. Blocks are counted by the reference's own cutting, which knows nothing of the bound.
+//! Change request 6's bound, by hand, and strings that were searched for one that goes past it by rule 2: "Request 6's
+//! bound still holds" (request 7). Blocks are counted by the reference's own cutting, which knows nothing of the bound.
 
 use reference::most_blocks::{bound, most_nodes};
 use reference::partition::blocks;
@@ -50,88 +50,78 @@ fn bounds_by_hand() {
     }
 }
 
-/// "five bytes 07: cuts 1 and 2", "Four: cut 1", "Three: none", "Empty: one empty block": with w=2 and h=1 a
-/// block more than the cuts.
+/// n, w and h that "24, w 2 to 12, h 1 to 32,768 and n at most 65,536" refuses, each by one of them.
+const REFUSED: [[u64; 3]; 21] = [
+    [100, 0, 1],
+    [100, 1, 1],
+    [100, 13, 1],
+    [100, 256 + 2, 1],
+    [100, (1 << 32) + 2, 1],
+    [100, u64::MAX, 1],
+    [100, 2, 0],
+    [100, 2, 32_769],
+    [100, 2, (1 << 16) + 1],
+    [100, 2, (1 << 32) + 1],
+    [100, 2, u64::MAX],
+    [65_537, 2, 1],
+    [70_000, 2, 1],
+    [(1 << 17) + 5, 2, 1],
+    [(1 << 32) + 5, 2, 1],
+    [1 << 63, 2, 1],
+    [u64::MAX, 2, 1],
+    [0, 1, 1],
+    [0, 13, 1],
+    [0, 2, 0],
+    [0, 2, 32_769],
+];
+
 #[test]
-fn document_01_has_four_of_them() {
-    for (n, cuts) in [(5, 2), (4, 1), (3, 0), (0, 0)] {
-        assert_eq!(bound(n, 2, 1), cuts + 1, "{n} bytes");
+fn window_distance_and_length() {
+    for [n, w, h] in REFUSED {
+        assert_eq!(rcds_most_blocks(n, w, h), 24, "n={n}, w={w}, h={h}");
     }
-}
-
-/// The answer with a buffer of so many bytes 170, and that buffer after it.
-fn asked(n: u64, w: u64, h: u64, room: usize) -> (u64, Vec<u8>) {
-    let mut buffer = vec![170; room];
-    let answer = rcds_most_blocks(n, w, h, &mut buffer);
-    (answer, buffer)
-}
-
-#[test]
-fn the_first_n_bytes_are_zero_and_the_others_untouched() {
-    assert_eq!(asked(0, 2, 1, 0), (ACCEPTED + 1, vec![]));
-    assert_eq!(asked(0, 2, 1, 3), (ACCEPTED + 1, vec![170; 3]));
-    assert_eq!(asked(3, 2, 1, 3), (ACCEPTED + 1, vec![0; 3]));
-    let longer = vec![0, 0, 0, 0, 170, 170];
-    assert_eq!(asked(4, 2, 1, 6), (ACCEPTED + 2, longer));
-    let (answer, buffer) = asked(65_536, 12, 2, 70_000);
-    assert_eq!(answer, ACCEPTED + 32);
-    assert_eq!(buffer[..65_536], [0; 65_536]);
-    assert_eq!(buffer[65_536..], [170; 4_464]);
-}
-
-#[test]
-fn a_buffer_shorter_than_n_comes_first() {
-    // n as a number of 64 bits, and with w, h or n that 24 refuses.
-    for (n, w, h, room) in [
-        (1, 2, 1, 0),
-        (100, 2, 1, 99),
-        (65_536, 2, 1, 65_535),
-        (100, 13, 1, 99),
-        (100, 99, 1, 99),
-        (100, 2, 0, 99),
-        (100, 2, 32_769, 99),
-        (100, 0, 0, 0),
-        (65_537, 2, 1, 65_536),
-        (70_000, 2, 1, 69_999),
-        ((1 << 16) + 5, 2, 1, 5),
-        ((1 << 32) + 5, 2, 1, 100),
-        (1 << 63, 2, 1, 100),
-        (u64::MAX, 2, 1, 100),
-        (u64::MAX, u64::MAX, u64::MAX, 0),
-    ] {
-        let about = format!("n={n}, w={w}, h={h}, {room} bytes");
-        assert_eq!(asked(n, w, h, room), (23, vec![170; room]), "{about}");
-    }
-}
-
-#[test]
-fn window_distance_and_length_come_second() {
-    for (n, w, h, room) in [
-        (100, 0, 1, 100),
-        (100, 1, 1, 100),
-        (100, 13, 1, 200),
-        (100, 256 + 2, 1, 100),
-        (100, (1 << 32) + 2, 1, 100),
-        (100, u64::MAX, 1, 100),
-        (100, 2, 0, 100),
-        (100, 2, 32_769, 100),
-        (100, 2, (1 << 16) + 1, 100),
-        (100, 2, (1 << 32) + 1, 100),
-        (100, 2, u64::MAX, 100),
-        (65_537, 2, 1, 65_537),
-        (70_000, 2, 1, 70_000),
-        (70_000, 2, 1, 80_000),
-        (0, 1, 1, 0),
-        (0, 2, 0, 0),
-    ] {
-        let about = format!("n={n}, w={w}, h={h}, {room} bytes");
-        assert_eq!(asked(n, w, h, room), (24, vec![170; room]), "{about}");
+    // Two of them, and all.
+    for [n, w, h] in [[100, 13, 0], [65_537, 1, 1], [65_537, 2, 0], [u64::MAX; 3]] {
+        assert_eq!(rcds_most_blocks(n, w, h), 24, "n={n}, w={w}, h={h}");
     }
     // What lies just inside.
-    for (n, w, h) in [(100, 2, 1), (100, 12, 1), (100, 2, 32_768), (65_536, 2, 1)] {
-        let (answer, _) = asked(n, w, h, n as usize);
-        assert_eq!(answer, ACCEPTED + bound(n, w, h), "n={n}, w={w}, h={h}");
+    for [n, w, h, blocks] in BY_HAND {
+        assert_eq!(rcds_most_blocks(n, w, h), ACCEPTED + blocks);
     }
+    for [n, w, h] in [
+        [100, 2, 1],
+        [100, 12, 1],
+        [100, 2, 32_768],
+        [65_536, 12, 32_768],
+    ] {
+        assert_eq!(rcds_most_blocks(n, w, h), ACCEPTED + bound(n, w, h));
+    }
+}
+
+/// "23 never occurs again": whatever is asked, the answer is 24 or a bound of 1 to 32.
+#[test]
+fn no_answer_is_23() {
+    let mut draw = Draw(23);
+    let mut accepted = 0;
+    for _ in 0..20_000 {
+        let [n, w, h] = [(1 << 17, 1), (15, 0), (1 << 16, 0)].map(|(end, least)| {
+            let small = draw.below(end) as u64;
+            let shift = 64 - draw.below(64) as u32;
+            match draw.below(8) {
+                0 => u64::MAX.checked_shr(shift).unwrap_or(least),
+                1 => 23,
+                _ => small,
+            }
+        });
+        let answer = rcds_most_blocks(n, w, h);
+        let allowed = (2..=12).contains(&w) && (1..=32_768).contains(&h) && n <= 65_536;
+        match allowed {
+            true => assert!((ACCEPTED + 1..=ACCEPTED + 32).contains(&answer)),
+            false => assert_eq!(answer, 24, "n={n}, w={w}, h={h}"),
+        }
+        accepted += usize::from(allowed);
+    }
+    assert!((2_000..18_000).contains(&accepted), "{accepted} accepted");
 }
 
 /// Moduli of cuttings by windows of w bytes: "s = w × p^(L−l+1)" from the smallest to the largest, and beyond
@@ -165,18 +155,13 @@ fn bound_of(string: &[u8], window: usize, distance: usize) -> u64 {
     bound(string.len() as u64, window as u64, distance as u64)
 }
 
-/// The file that the call writes for a length, which has as many blocks as it answers.
-fn assert_reached(n: usize, w: usize, h: usize, moduli: &[u64]) -> u64 {
-    let (answer, file) = asked(n as u64, w as u64, h as u64, n);
-    for &modulus in moduli {
-        let blocks = count(&file, w, h, modulus);
-        assert_eq!(
-            answer,
-            ACCEPTED + blocks,
-            "n={n}, w={w}, h={h}, s={modulus}"
-        );
-    }
-    answer - ACCEPTED
+/// The most blocks that cuts leave room for by rule 2: they are "h ≤ i ≤ n−w−h", and more than h apart, since of two
+/// positions within h the later one's value is smaller than the earlier one's, and the earlier one's not greater.
+fn room(n: usize, w: usize, h: usize) -> u64 {
+    let Some(last) = n.checked_sub(w + 2 * h) else {
+        return 1;
+    };
+    (last / (h + 1) + 1).min(31) as u64 + 1
 }
 
 /// Lengths around so many distances after the first window.
@@ -185,32 +170,19 @@ fn lengths(w: usize, h: usize, distances: Range<usize>) -> impl Iterator<Item = 
     distances.flat_map(around)
 }
 
+/// The bound is not passed by as many cuts as there is room for, and they reach it where (n−w)/h is not too large: with
+/// n−w = k × h + r they do so when k is at most r + 2.
 #[test]
-fn zeros_reach_the_bound() {
-    let mut seen = [0; 33];
-    for w in 2..=12 {
-        for h in [1, 2, 3, 5, 7, 16, 33] {
-            for n in (0..w).chain(lengths(w, h, 0..35)) {
-                seen[assert_reached(n, w, h, &moduli(w)) as usize] += 1;
-            }
+fn where_there_is_room_for_the_bound() {
+    for (w, h) in (2..=12).flat_map(|w| (1..40).map(move |h| (w, h))) {
+        for n in (0..w).chain(lengths(w, h, 0..35)) {
+            let (k, r) = (n.saturating_sub(w) / h, n.saturating_sub(w) % h);
+            let most = bound(n as u64, w as u64, h as u64);
+            assert!(room(n, w, h) <= most, "n={n}, w={w}, h={h}");
+            let reached = k <= r + 2 || room(n, w, h) == 32;
+            assert_eq!(room(n, w, h) == most, reached, "n={n}, w={w}, h={h}");
         }
     }
-    assert_eq!(seen[0], 0);
-    assert!(seen[1..].iter().all(|&times| times > 0), "{seen:?}");
-}
-
-#[test]
-fn long_files_of_zeros_reach_the_bound() {
-    for n in lengths(3, 300, 31..34) {
-        assert_reached(n, 3, 300, &[6, 12_288]);
-    }
-    for (w, h) in [(2, 32_767), (12, 32_762)] {
-        assert_eq!(assert_reached(65_535, w, h, &moduli(w)), 1);
-        assert_eq!(assert_reached(65_536, w, h, &moduli(w)), 2);
-    }
-    assert_eq!(assert_reached(65_536, 2, 32_768, &moduli(2)), 1);
-    assert_eq!(assert_reached(63_002, 2, 21_000, &[4]), 3);
-    assert_eq!(assert_reached(65_536, 12, 2, &[24]), 32);
 }
 
 /// All strings of so many bytes out of these.
@@ -223,20 +195,22 @@ fn all_strings(symbols: &[u8], length: usize) -> impl Iterator<Item = Vec<u8>> +
     (0..symbols.len().pow(length as u32)).map(string)
 }
 
-/// The most blocks of all strings are as many as the bound says: it is not too small, and not too large.
+/// The most blocks of all strings are as many as there is room for, and not more than the bound says.
 fn assert_most_of_all(symbols: &[u8], n: usize, w: usize, h: usize) {
     for modulus in moduli(w) {
         let counts = all_strings(symbols, n).map(|string| count(&string, w, h, modulus));
         let most = counts.max().expect("a string of each length");
-        let expected = bound(n as u64, w as u64, h as u64);
-        assert_eq!(most, expected, "n={n}, w={w}, h={h}, s={modulus}");
+        let about = format!("n={n}, w={w}, h={h}, s={modulus}");
+        assert!(most <= bound(n as u64, w as u64, h as u64), "{about}");
+        let expected = if modulus == 1 { 1 } else { room(n, w, h) };
+        assert_eq!(most, expected, "{about}");
     }
 }
 
 #[test]
 fn of_all_short_strings_the_most_blocks() {
     for (w, h) in [(2, 1), (2, 2), (3, 1), (3, 2), (2, 3)] {
-        (0..=11).for_each(|n| assert_most_of_all(&[0, 1], n, w, h));
+        (0..=11).for_each(|n| assert_most_of_all(&[0, 255], n, w, h));
         (0..=7).for_each(|n| assert_most_of_all(&[0, 3, 255], n, w, h));
     }
 }
@@ -264,7 +238,7 @@ fn repeated(bytes: &[u8], length: usize) -> Vec<u8> {
 /// Strings of n bytes: of every kind, of few byte values, and of periods about as long as the distance, so that
 /// their smallest values stand as close as cuts may come, or closer.
 fn strings(n: usize, h: usize, draw: &mut Draw) -> Vec<Vec<u8>> {
-    let mut strings: Vec<Vec<u8>> = (1..=5).map(|kind| string(kind, n)).collect();
+    let mut strings: Vec<Vec<u8>> = (0..=6).map(|kind| string(kind, n)).collect();
     strings.extend([1, 2, 3, 5, 17, 256].map(|symbols| draw.bytes(n, symbols)));
     for period in [(h / 2).max(1), (h - 1).max(1), h, h + 1, 2 * h] {
         for symbols in [2, 256] {
@@ -278,37 +252,29 @@ fn strings(n: usize, h: usize, draw: &mut Draw) -> Vec<Vec<u8>> {
     strings
 }
 
-/// Whether a string has two different bytes.
-fn is_mixed(string: &[u8]) -> bool {
-    string.windows(2).any(|pair| pair[0] != pair[1])
-}
-
-/// That no cutting of the string gives more blocks than the bound says. By how many moduli it reaches it, 1 left
-/// out, by which every string does.
-fn times_reached(string: &[u8], w: usize, h: usize) -> usize {
+/// That no cutting of the string gives more blocks than the bound says. By how many moduli it has as many as there is
+/// room for.
+fn times_filled(string: &[u8], w: usize, h: usize) -> usize {
     let most = bound_of(string, w, h);
-    let reaches = |&modulus: &u64| {
+    let fills = |&modulus: &u64| {
         let blocks = count(string, w, h, modulus);
         assert!(blocks <= most, "w={w}, h={h}, s={modulus}: {string:?}");
-        blocks == most && modulus > 1
+        blocks == room(string.len(), w, h)
     };
-    moduli(w).iter().filter(|modulus| reaches(modulus)).count()
+    moduli(w).iter().filter(|modulus| fills(modulus)).count()
 }
 
 #[test]
 fn no_string_has_more_blocks() {
     let mut draw = Draw(6);
-    let mut reached = [0; 33];
+    let mut filled = [0; 33];
     let rules = [2, 5, 12].map(|w| [1, 2, 3, 7, 16].map(|h| (w, h)));
     for (w, h) in rules.into_iter().flatten() {
-        for string in lengths(w, h, 1..35).flat_map(|n| strings(n, h, &mut draw)) {
-            let times = times_reached(&string, w, h);
-            if is_mixed(&string) {
-                reached[bound_of(&string, w, h) as usize] += times;
-            }
+        for string in lengths(w, h, 1..70).flat_map(|n| strings(n, h, &mut draw)) {
+            filled[room(string.len(), w, h) as usize] += times_filled(&string, w, h);
         }
     }
-    assert!(reached[1..].iter().all(|&times| times > 0), "{reached:?}");
+    assert!(filled[1..].iter().all(|&times| times > 0), "{filled:?}");
 }
 
 /// Changes byte by byte, none of which makes the blocks fewer, from a string with different bytes. The most
@@ -337,28 +303,28 @@ fn climb(n: usize, w: usize, h: usize, modulus: u64, draw: &mut Draw) -> u64 {
 #[test]
 fn no_search_finds_a_string_with_more_blocks() {
     let mut draw = Draw(7);
-    let (mut climbs, mut reached) = (0, 0);
+    let (mut climbs, mut filled) = (0, 0);
     for (w, h) in [(2, 1), (2, 2), (3, 4), (5, 3), (12, 2)] {
-        for modulus in moduli(w) {
+        for &modulus in &moduli(w)[1..] {
             for distances in [3, 6, 9] {
                 let n = w + distances * h;
                 let most = climb(n, w, h, modulus, &mut draw);
                 climbs += 1;
-                reached += usize::from(most == bound(n as u64, w as u64, h as u64));
+                filled += usize::from(most == room(n, w, h));
             }
         }
     }
-    assert!(2 * reached > climbs, "{reached} of {climbs} reached it");
+    assert!(2 * filled > climbs, "{filled} of {climbs} filled the room");
 }
 
 /// "one cutting" is one node's: every node of a tree, cut by the h of the level below it, has at most as many
-/// children as its own length allows, and of zeros exactly as many.
+/// children as its own length allows. Some have exactly as many, and more than one.
 #[test]
 fn every_node_of_a_tree_is_one_cutting() {
-    let mut cuttings = 0;
+    let (mut cuttings, mut reached) = (0, 0);
     for [window, fan_out, levels, nominal] in [[2, 2, 4, 16], [3, 3, 3, 200], [12, 2, 4, 900]] {
         let settings = settings([window, fan_out, levels, nominal]);
-        for (kind, n) in (0..=5).flat_map(|kind| [(kind, 0), (kind, 300), (kind, 1_000)]) {
+        for (kind, n) in (0..=6).flat_map(|kind| [(kind, 0), (kind, 300), (kind, 1_000)]) {
             let nodes = tree(&settings, &string(kind, n));
             for (k, node) in nodes
                 .iter()
@@ -370,12 +336,13 @@ fn every_node_of_a_tree_is_one_cutting() {
                 let of_node = nodes[1..].iter().filter(|child| child.parent == k);
                 let children = of_node.count() as u64;
                 assert!(children <= most, "kind {kind}, {n} bytes, node {k}");
-                assert!(kind > 0 || children == most, "{n} zeros, node {k}");
                 cuttings += usize::from(most > 1);
+                reached += usize::from(most > 1 && children == most);
             }
         }
     }
     assert!(cuttings > 100, "{cuttings} nodes could be cut");
+    assert!(reached > 20, "{reached} nodes have most children");
 }
 
 fn settings([window, fan_out, levels, nominal]: [u64; 4]) -> Settings {
@@ -412,14 +379,14 @@ fn no_tree_has_more_nodes() {
         [5, 6, 2, 36],
         [12, 2, 4, 900],
     ] {
-        for (kind, n) in (0..=5).flat_map(|kind| [0, 1, 40, 300, 2_000].map(|n| (kind, n))) {
+        for (kind, n) in (0..=6).flat_map(|kind| [0, 1, 40, 300, 2_000].map(|n| (kind, n))) {
             let nodes = tree(&settings(numbers), &string(kind, n)).len() as u64;
             let most = most_nodes(&settings(numbers), n as u64);
             assert!(nodes <= most, "{numbers:?}, kind {kind}, {n} bytes");
-            reached += usize::from(nodes == most && n > 1);
+            reached += usize::from(nodes == most && most > numbers[2] + 1);
         }
     }
-    assert!(reached > 10, "{reached} trees have as many");
+    assert!(reached > 5, "{reached} trees with cuts have as many");
 }
 
 /// The most nodes of strings of at most M bytes, over every M.

@@ -11,6 +11,7 @@ use reference::shingle::{children, pairs, shingles, Pair, Shingle};
 use reference::shingle_table;
 use reference::sketch::{f, minus, part, places, sketch, twenty_bytes};
 use reference::tree::tree;
+use reference::vectors::{ruler, FULL_RULER, LONG_RULER, RULED};
 
 /// "With w=2, p=2, L=1, M=2"
 const SMALLEST: Settings = Settings {
@@ -18,14 +19,6 @@ const SMALLEST: Settings = Settings {
     fan_out: 2,
     levels: 1,
     nominal: 2,
-};
-
-/// The settings with which zeros give most nodes.
-const MOST_NODES: Settings = Settings {
-    window: 2,
-    fan_out: 8,
-    levels: 4,
-    nominal: 4_096,
 };
 
 fn shingle(level: u64, previous: u64, own: u64, count: u64) -> Shingle {
@@ -61,29 +54,31 @@ fn shingles_of_six_bytes() {
 
 #[test]
 fn a_pair_is_counted_over_its_level() {
-    // Five bytes 07 are cut at 1 and 2; six, at 1, 2 and 3: the blocks are 07, 07, 07 and 07 07 07.
-    let (one, three) = (fnv1a(&[7]), fnv1a(&[7; 3]));
-    let list = shingles(&tree(&SMALLEST, &[7; 6]));
+    // 01 ff and ff 01 have the values 0 and 3, so that nine bytes are cut at 2, 4 and 6: the blocks are 01 ff, 01 ff,
+    // 01 ff and 01 ff 01.
+    let string = [1, 255, 1, 255, 1, 255, 1, 255, 1];
+    let (two, three) = (fnv1a(&[1, 255]), fnv1a(&[1, 255, 1]));
+    let list = shingles(&tree(&SMALLEST, &string));
     let mut expected = vec![
-        shingle(1, 0, one, 1),
-        shingle(1, one, one, 2),
-        shingle(1, one, three, 1),
+        shingle(1, 0, two, 1),
+        shingle(1, two, two, 2),
+        shingle(1, two, three, 1),
     ];
     expected.sort();
-    assert_eq!(list[0], shingle(0, 0, fnv1a(&[7; 6]), 1));
+    assert_eq!(list[0], shingle(0, 0, fnv1a(&string), 1));
     assert_eq!(list[1..], expected);
 }
 
 #[test]
 fn empty_string_gives_one_shingle_for_each_level() {
-    let list = shingles(&tree(&MOST_NODES, &[]));
+    let list = shingles(&tree(&RULED, &[]));
     let expected = [0, 1, 2, 3, 4].map(|level| shingle(level, 0, fnv1a(&[]), 1));
     assert_eq!(list, expected);
 }
 
 #[test]
 fn a_first_child_has_no_sibling_under_another_parent() {
-    let nodes = tree(&MOST_NODES, &[0; 4_527]);
+    let nodes = tree(&RULED, &ruler(FULL_RULER));
     let list = shingles(&nodes);
     let sum: u64 = list.iter().map(|shingle| shingle.count).sum();
     assert_eq!(sum, 4_096);
@@ -167,14 +162,11 @@ fn a_setup_fills_what_it_is_lent() {
 fn questions_of_a_setup_in_their_order() {
     let ask = |nominal, width, string: usize, lengths: [usize; 4]| {
         let [mut nodes, mut list, mut cells, mut state] = lengths.map(|n| vec![170; n]);
-        let settings = Settings {
-            nominal,
-            ..MOST_NODES
-        };
+        let settings = Settings { nominal, ..RULED };
         let answer = rcds_sender_setup(
             &settings,
             width,
-            &vec![0; string],
+            &ruler(string),
             &mut nodes,
             &mut list,
             &mut cells,
@@ -199,7 +191,8 @@ fn questions_of_a_setup_in_their_order() {
     }
     assert_eq!(ask(4_096, 63, 65_536, [65_536, 98_304, 7_559, 40]), 7);
     assert_eq!(ask(4_096, 64, 65_536, enough), 8);
-    assert_eq!(ask(4_096, 64, 4_527, enough), ACCEPTED + 4_096);
+    assert_eq!(ask(4_096, 64, LONG_RULER, enough), 8);
+    assert_eq!(ask(4_096, 64, FULL_RULER, enough), ACCEPTED + 4_096);
 }
 
 #[test]

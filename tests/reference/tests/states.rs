@@ -8,6 +8,7 @@ use reference::receiver::{running, Pending, Receiver, Stage};
 use reference::receiver_state::{ended, read, write, HEADER_ROWS, STATE_BYTES};
 use reference::reply::reply;
 use reference::settings::Settings;
+use reference::vectors::{ruler, LONG_RULER, RULED};
 
 /// "With w=2, p=2, L=1, M=2"
 const SMALLEST: Settings = Settings {
@@ -85,17 +86,11 @@ fn a_setup_asks_for_the_state_with_the_tables() {
     assert_eq!(answer(65, &mut lent), 5);
     assert_eq!(lent, before);
     // More nodes than are allowed: 7 comes first.
-    let many = Settings {
-        window: 2,
-        fan_out: 8,
-        levels: 4,
-        nominal: 4_096,
-    };
-    let mut lent = memory(&[0; 5_000]);
-    assert_eq!(rcds_receiver_setup(&many, 64, 5, &mut lent, &mut state), 7);
+    let mut lent = memory(&ruler(LONG_RULER));
+    assert_eq!(rcds_receiver_setup(&RULED, 64, 5, &mut lent, &mut state), 7);
     assert_eq!(lent.nodes, vec![170; 65_536]);
     let mut state = vec![170; STATE_BYTES];
-    assert_eq!(rcds_receiver_setup(&many, 64, 5, &mut lent, &mut state), 8);
+    assert_eq!(rcds_receiver_setup(&RULED, 64, 5, &mut lent, &mut state), 8);
     assert_eq!(
         (lent.nodes, state),
         (vec![0; 65_536], vec![170; STATE_BYTES])

@@ -13,7 +13,7 @@ use reference::sketch::{f, minus, part, places, plus, sketch, Cell};
 use reference::strata::{
     build, estimate, of_stratum, open, read, stratum, write, CHECKS_0, CHECKS_2_63, TABLE_BYTES,
 };
-use reference::{receiver_state, sender, shingle_table};
+use reference::{receiver_state, sender, shingle_table, vectors};
 
 const SETTINGS: Settings = Settings {
     window: 2,
@@ -247,7 +247,7 @@ fn rows_that_a_state_lacks_are_0() {
 #[test]
 fn a_state_of_either_end() {
     let (_, mut lent) = end(&[]);
-    lent.string = vec![3; 20];
+    lent.string = vectors::string(2, 20);
     let mut state = vec![0; receiver_state::STATE_BYTES];
     let answer = rcds_receiver_setup(&SETTINGS, WIDTH, 5, &mut lent, &mut state);
     assert!(answer > ACCEPTED);

@@ -1,24 +1,23 @@
-//! The cuts worked out a third time, by stretches of h positions, and compared with the reference.
+//! The cuts worked out a third time, by stretches of h + 1 positions, and compared with the reference.
 //!
-//! A cut may come from position a on. All positions of the stretch a to a+h−1 lie within h of each
-//! other, so a candidate among them has the stretch's least value. It is one exactly when no
-//! smaller value stands within h before it or within h after it, and for that it is enough to know
-//! the last smaller value of the h positions before the stretch and the first of the h after it.
+//! A cut may come from position a on. All positions of the stretch a to a+h lie within h of each other, so
+//! a candidate among them is the first with the stretch's least value, and the only one. It is one exactly
+//! when no value within h before the stretch is as small, and none within h after it is smaller. For that it
+//! is enough to know the last one of the h positions before the stretch, and the first one of the h after it.
 
 use reference::partition::{cuts, window_values, MOST_CUTS};
 use reference::settings::Rule;
 
-/// The first candidate of the stretch `from` to `to`, if it has one.
-fn first_candidate(values: &[u64], from: usize, to: usize, h: usize) -> Option<usize> {
-    let least = *values[from..to]
-        .iter()
-        .min()
+/// The candidate of the stretch `from` to `to`, if it has one.
+fn only_candidate(values: &[u64], from: usize, to: usize, h: usize) -> Option<usize> {
+    let i = (from..to)
+        .min_by_key(|&i| values[i])
         .expect("a stretch is not empty");
-    let smaller = |i: &usize| values[*i] < least;
-    let before = (from - h..from).rev().find(smaller);
-    let after = (to..(to + h).min(values.len())).find(smaller);
-    let found = (from..to).find(|&i| values[i] == least && before.map_or(true, |t| i > t + h));
-    found.filter(|&i| after.map_or(true, |u| i + h < u))
+    let before = (from - h..from).rev().find(|&t| values[t] <= values[i]);
+    let after = (to..(to + h).min(values.len())).find(|&u| values[u] < values[i]);
+    let far_before = before.map_or(true, |t| i > t + h);
+    let far_after = after.map_or(true, |u| i + h < u);
+    (far_before && far_after).then_some(i)
 }
 
 fn cuts_by_stretches(string: &[u8], rule: &Rule) -> Vec<usize> {
@@ -28,14 +27,9 @@ fn cuts_by_stretches(string: &[u8], rule: &Rule) -> Vec<usize> {
     let end = values.len().saturating_sub(h);
     let mut from = h;
     while from < end && cuts.len() < MOST_CUTS {
-        let to = (from + h).min(end);
-        match first_candidate(&values, from, to, h) {
-            Some(cut) => {
-                cuts.push(cut);
-                from = cut + h;
-            }
-            None => from = to,
-        }
+        let to = (from + h + 1).min(end);
+        cuts.extend(only_candidate(&values, from, to, h));
+        from = to;
     }
     cuts
 }

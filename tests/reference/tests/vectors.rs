@@ -18,6 +18,11 @@ fn strings_of_each_kind() {
     assert_eq!(string(4, 1_002)[998..], [0x0f, 0x98, 0x0f, 0xa0]);
     let repeats = string(5, 100);
     assert_eq!(repeats[37..], repeats[..63]);
+    let ruler = string(6, 1_200);
+    assert_eq!(ruler[..6], [0, 112, 255, 112, 255, 112]);
+    let marks = [0, 1, 2, 10, 70, 140, 559, 560, 630, 1_120].map(|i| ruler[i]);
+    assert_eq!(marks, [0, 112, 255, 235, 211, 211, 112, 0, 211, 0]);
+    assert_eq!(ruler[560..1_120], ruler[..560]);
 }
 
 #[test]
@@ -25,7 +30,7 @@ fn lines_as_the_format_counts_them() {
     assert_eq!(fnv_lines().len(), 270);
     assert_eq!(fnv_lines()[268..], ["fnv 8 0", "id 1"]);
     let lines = tree_lines();
-    assert_eq!(lines.len(), 410);
+    assert_eq!(lines.len(), 413);
     for question in [1, 2, 3, 4, 6, 8] {
         let refused = |line: &&String| line.split(' ').nth(6) == Some(&question.to_string());
         assert!(
@@ -38,7 +43,7 @@ fn lines_as_the_format_counts_them() {
 #[test]
 fn lines_of_setups() {
     let lines = setup_lines();
-    assert_eq!(lines.len(), 105);
+    assert_eq!(lines.len(), 107);
     let answers = |question: u64| {
         let of = |line: &&String| line.split(' ').nth(8) == Some(&question.to_string());
         lines.iter().filter(of).count()
@@ -52,23 +57,23 @@ fn lines_of_setups() {
 fn lines_of_trees_that_are_crossed() {
     let lines = crossed_lines();
     assert_eq!(lines.len(), 61);
-    // Five bytes 07, "cuts 1 and 2": the blocks 0 to 0, 1 to 1 and 2 to 4.
+    // 00 70 ff 70 ff 70 ff 70 has values 0 3 2 3 2 3 2, cuts 2 and 4: the blocks 0 to 1, 2 to 3 and 4 to 7.
     let by_hand = [
-        "node 0 0 5 0 0",
-        "node 1 0 1 0 0",
-        "node 1 1 1 0 1",
-        "node 1 2 3 0 2",
+        "node 0 0 8 0 0",
+        "node 1 0 2 0 0",
+        "node 1 2 2 0 1",
+        "node 1 4 4 0 2",
         "crossed 0 0 0 4294967296",
         "crossed 0 1 64 4294967298 0 0 1 0",
-        "crossed 1 1 64 4294967298 0 0 2 0",
-        "crossed 1 2 64 4294967299 0 0 2 0 3 0",
-        "crossed 0 5 4 4294967300 0 0 1 0 2 0 3 0",
-        "crossed 0 5 3 22",
-        "crossed 5 0 0 4294967296",
-        "crossed 16 1 5 21",
+        "crossed 2 2 64 4294967298 0 0 2 0",
+        "crossed 3 2 64 4294967299 0 0 2 0 3 0",
+        "crossed 0 8 4 4294967300 0 0 1 0 2 0 3 0",
+        "crossed 0 8 3 22",
+        "crossed 8 0 0 4294967296",
+        "crossed 26 1 5 21",
     ];
     assert_eq!(lines[..by_hand.len()], by_hand);
-    let exact = "crossed 16 1 5 4294967301 0 0 1 0 10 1 15 10 18 15";
+    let exact = "crossed 26 1 5 4294967301 0 0 7 0 12 7 17 12 18 17";
     assert!(lines.iter().any(|line| line == exact));
 }
 
@@ -83,16 +88,19 @@ fn lines_of_strata() {
     let answers: Vec<u64> = answers
         .map(|word| word.parse().expect("a number"))
         .collect();
-    // The trees of 20,000 bytes with the last settings have too many nodes: those senders have no state either.
+    // With the last settings the trees of 20,000 bytes of kinds 2 and 4 have too many nodes, those of kinds 3 and 5 have
+    // not. Senders that are refused have no state, and build no strata.
     let untouched = fnv1a(&[170; 7_688]).to_string();
-    for (words, &answer) in words[40..].iter().zip(&answers[40..]) {
-        assert_eq!(
-            (words[own], words[theirs], answer),
-            (&*untouched, &*untouched, 1)
-        );
+    let refused_ends = [[true; 2], [true; 2], [false; 2], [true, false], [true; 2]];
+    let refused_settings = [[true; 2]; 2];
+    for (k, refused) in (40..).zip([&refused_ends[..], &refused_settings].concat()) {
+        let tables = [words[k][own], words[k][theirs]];
+        assert_eq!(tables.map(|table| table == untouched), refused, "line {k}");
+        assert_eq!(answers[k] == 1, refused[0], "line {k}");
     }
     assert!(answers[..40].iter().all(|&answer| answer >> 32 == 1));
-    assert!(answers.iter().any(|&answer| answer > (1 << 32) + 1_000));
+    // Some stratum after a few does not open, so that what the higher ones list counts many times.
+    assert!(answers.iter().any(|&answer| answer > (1 << 32) + 90));
     // Of the same settings and length, the string of kind 2 is the first's of two lines and the second's of one.
     assert_eq!(
         [STRATA_KINDS[0][0], STRATA_KINDS[3][0], STRATA_KINDS[4][1]],
@@ -108,29 +116,14 @@ fn lines_of_strata() {
 }
 
 #[test]
-fn lines_of_files_with_most_blocks() {
+fn lines_of_most_blocks() {
     let lines = most_lines();
-    assert_eq!(lines.len(), 19);
-    // FNV-1a of no byte is the basis, of one byte 0 the basis times the prime.
-    assert_eq!(lines[0], "most 0 2 1 0 4294967297 14695981039346656037");
-    let one = 14_695_981_039_346_656_037_u64.wrapping_mul(1_099_511_628_211);
-    assert_eq!(lines[2], format!("most 1 12 32768 1 4294967297 {one}"));
-    let buffers: [(usize, &[u8]); 4] = [
-        (1, &[170; 3]),
-        (3, &[0; 5]),
-        (4, &[0, 0, 0, 0, 0, 0, 170, 170, 170]),
-        (17, &[170; 6]),
-    ];
-    for (k, buffer) in buffers {
-        let hash = format!(" {}", fnv1a(buffer));
-        assert!(lines[k].ends_with(&hash), "{}", lines[k]);
-    }
-    let answer = |line: &String| line.split(' ').nth(5).map(str::to_string);
+    assert_eq!(lines[0], "most 0 2 1 4294967297");
+    assert_eq!(lines[17], "most 18446744073709551615 2 1 24");
+    let answer = |line: &String| line.split(' ').nth(4).map(str::to_string);
     let answers: Vec<String> = lines.iter().filter_map(answer).collect();
-    let blocks = [1, 1, 1, 1, 2, 13].map(|count: u64| (1 << 32) + count);
-    let longer = [32, 32, 1, 2, 32].map(|count: u64| (1 << 32) + count);
-    let refused = [24, 24, 24, 24, 24, 23, 23];
-    let expected = [&blocks[..], &[23], &longer, &refused].concat();
+    let counts = [1, 1, 1, 2, 3, 13, 32, 32, 1, 2, 32].map(|count: u64| (1 << 32) + count);
+    let expected = [&counts[..], &[24; 7]].concat();
     assert_eq!(
         answers,
         expected.iter().map(u64::to_string).collect::<Vec<_>>()

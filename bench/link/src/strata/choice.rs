@@ -3,16 +3,8 @@
 use super::pair::Pair;
 
 /// Widths, and the most differing shingles that at least 950 of 1,000 sketches of the group `widths` opened
-/// with each. The other odd widths of that group open no more than a narrower one of these.
-const WIDTHS: [(u64, usize); 7] = [
-    (7, 6),
-    (11, 10),
-    (15, 18),
-    (23, 32),
-    (31, 48),
-    (43, 64),
-    (53, 96),
-];
+/// with each. The others of that group which also open a pair at any two levels open no more than a narrower one of these.
+const WIDTHS: [(u64, usize); 6] = [(11, 10), (17, 18), (23, 32), (33, 48), (43, 64), (53, 96)];
 
 /// The width that is compared with the chosen ones.
 const FIXED: u64 = 43;

@@ -2,7 +2,7 @@
 
 use super::packed::{is_of_copies, STRATUM};
 use crate::calls::{sketch_open, strata_build, strata_estimate, End, STRATA_BYTES};
-use crate::settings::entries;
+use crate::settings::list;
 use crate::widths::{cells, table};
 use std::collections::HashSet;
 
@@ -17,17 +17,6 @@ pub struct Pair {
     pub differences: usize,
     /// How many the receiver estimates.
     pub estimate: usize,
-}
-
-/// A row of eight bytes as a number.
-fn number(row: &[u8]) -> u64 {
-    row.iter().fold(0, |sum, byte| sum << 8 | u64::from(*byte))
-}
-
-/// The list of a shingle table.
-fn list(table: &[u8]) -> Vec<[u64; 3]> {
-    let shingle = |entry: &[u8]| [0, 8, 16].map(|at| number(&entry[at..at + 8]));
-    entries(table).into_iter().map(shingle).collect()
 }
 
 /// The strata of an end. A table that holds anything but copies of 17 cells stops the program.

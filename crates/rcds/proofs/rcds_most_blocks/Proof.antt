@@ -6,11 +6,8 @@ use Rattle.rcds.proofs.rcds_most_blocks.Tie as tie
 most-blocks-requires : tie.Need-most-blocks-requires
 most-blocks-requires c κs = search needs
 
-same-length : tie.Need-same-length
-same-length c = search needs
-
 returns : tie.Need-returns
-returns c = c .before .before .most-blocks .ensures
+returns c = c .most-blocks .ensures
 
 pub rcds-most-blocks-spec : {M : Type 1} → statement M
-rcds-most-blocks-spec = tie.close (tie.spec most-blocks-requires same-length returns)
+rcds-most-blocks-spec = tie.close (tie.spec most-blocks-requires returns)

@@ -5,13 +5,14 @@ use super::altered;
 use super::ranges::{self, Range, LARGE};
 use crate::content::{self, Content, KINDS};
 use crate::random::{family_of, together, Random};
-use crate::settings::{any_allowed, any_length, many_nodes, most_nodes, with_nominal};
+use crate::settings::{any_allowed, any_length, many_nodes, with_nominal};
 use reference::crossed::ENTRY_BYTES;
 use reference::node_table;
 use reference::questions::nodes_allowed;
 use reference::rcds::{rcds_crossed, ACCEPTED};
 use reference::settings::Settings;
 use reference::tree::{tree, Node};
+use reference::vectors::{FULL_RULER, RULED};
 use std::fmt;
 
 /// One call.
@@ -82,7 +83,7 @@ pub enum Family {
     OneMemory,
     /// Strings without bytes.
     EmptyString,
-    /// Strings of equal bytes that have thousands of nodes.
+    /// Rulers and random strings that have thousands of nodes.
     ManyNodes,
     /// Strings of up to 5,000 bytes.
     Middle,
@@ -133,7 +134,7 @@ fn family_case(
     random: &mut Random,
 ) -> Case {
     let settings = settings(family, place, random);
-    let content = random.one_of(contents(family));
+    let content = random.one_of(contents(family, place));
     let length = length(family, place, &settings, random);
     let string = content::string(content, length, random);
     let (string, tree) = cut(&settings, string);
@@ -162,15 +163,16 @@ fn settings(family: Family, place: usize, random: &mut Random) -> Settings {
             let (w, p, levels) = (place % 11, place / 11 % 7, place / 77 % 4);
             with_nominal(2 + w as u64, 2 + p as u64, 1 + levels as u64, random)
         }
-        Family::ManyNodes if place % 3 == 0 => most_nodes(),
+        Family::ManyNodes if place % 3 == 0 => RULED,
         Family::ManyNodes => many_nodes(random),
         _ => any_allowed(random),
     }
 }
 
-fn contents(family: Family) -> &'static [Content] {
+fn contents(family: Family, place: usize) -> &'static [Content] {
     match family {
-        Family::ManyNodes => &[Content::Zeros, Content::AllEqual],
+        Family::ManyNodes if place % 3 == 0 => &[Content::Ruler],
+        Family::ManyNodes => &[Content::Random, Content::Ruler],
         _ => &KINDS,
     }
 }
@@ -178,7 +180,7 @@ fn contents(family: Family) -> &'static [Content] {
 fn length(family: Family, place: usize, settings: &Settings, random: &mut Random) -> usize {
     match family {
         Family::EmptyString => 0,
-        Family::ManyNodes if place % 3 == 0 => 4_527,
+        Family::ManyNodes if place % 3 == 0 => FULL_RULER,
         Family::ManyNodes => random.by_size(2_000, 12_000) as usize,
         Family::Middle => any_length(settings, 600, 5_000, random),
         Family::Long if place % 3 == 0 => 65_536,
@@ -195,7 +197,7 @@ fn cut(settings: &Settings, mut string: Vec<u8>) -> (Vec<u8>, Vec<Node>) {
         return (string, nodes);
     }
     string.truncate(4_000);
-    let nodes = tree(&most_nodes(), &string);
+    let nodes = tree(&RULED, &string);
     assert!(nodes_allowed(&nodes), "a tree that is allowed");
     (string, nodes)
 }

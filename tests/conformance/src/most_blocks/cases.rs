@@ -1,8 +1,8 @@
-//! The cases: n, w, h and a buffer, and of some a string that is cut with the same numbers; each made from the seed and
-//! the case's number alone.
+//! The cases: n, w and h, and of some two strings that are cut with the same numbers; each made from the seed and the
+//! case's number alone.
 
 use super::cutting::{self, Cutting};
-use super::numbers::{self, Numbers, GRID, REFUSED, ROOMS};
+use super::numbers::{self, Numbers, GRID, REFUSED, SMALL};
 use crate::random::{family_of, together, Random};
 use std::fmt;
 
@@ -12,23 +12,18 @@ pub struct Case {
     pub number: usize,
     pub family: Family,
     pub numbers: Numbers,
-    /// The bytes of the buffer.
-    pub room: usize,
-    /// How far the buffer is moved in memory, so that most of them are not aligned.
-    pub shift: usize,
     pub cutting: Option<Cutting>,
 }
 
 impl fmt::Display for Case {
     fn fmt(&self, f: &mut fmt::Formatter) -> fmt::Result {
         let Numbers { n, w, h } = self.numbers;
-        let (family, room) = (self.family, self.room);
-        write!(f, "{family:?}, n={n} w={w} h={h}, buffer of {room} bytes")?;
+        write!(f, "{:?}, n={n} w={w} h={h}", self.family)?;
         if let Some(cutting) = &self.cutting {
-            let (settings, text) = (&cutting.settings, cutting.text);
+            let (settings, byte, text) = (&cutting.settings, cutting.byte, cutting.text);
             write!(
                 f,
-                "; cut by w={} p={} levels={} nominal={}, and beside it {text:?}",
+                "; n bytes {byte} cut by w={} p={} levels={} nominal={}, and beside them {text:?}",
                 settings.window, settings.fan_out, settings.levels, settings.nominal,
             )?;
         }
@@ -40,45 +35,45 @@ impl fmt::Display for Case {
 #[derive(Clone, Copy, Debug, PartialEq, Eq, PartialOrd, Ord)]
 pub enum Family {
     /// Every w from 0 to 14, with h and n at, around and far past the ends of what is allowed, n also around as many
-    /// distances as there may be blocks; each with every kind of buffer.
+    /// distances as there may be blocks.
     Grid,
-    /// Numbers that are allowed, with every kind of buffer.
+    /// Every w that is allowed with every small h and n.
+    Small,
+    /// Numbers that are allowed.
     Allowed,
-    /// Numbers of which 24 refuses one, with a buffer that is long enough.
+    /// Numbers of which 24 refuses one.
     OneRefused,
-    /// The same with a buffer that is too short.
-    BothRefused,
+    /// Numbers of which 24 refuses two.
+    TwoRefused,
     /// Numbers of which one would be allowed if only its low bits were looked at.
     LowBits,
     /// Any numbers of 64 bits.
     AnyNumbers,
-    /// Buffers of more than 65,536 bytes, of numbers that are allowed and others.
-    LongBuffers,
-    /// The file and another string cut by one level.
+    /// Equal bytes and another string cut by one level.
     OneLevel,
-    /// The file and another string cut by one to four levels.
+    /// Equal bytes and another string cut by one to four levels.
     Levels,
 }
 
 /// The families, and how many cases each has.
 pub const FAMILIES: [(Family, usize); 9] = [
-    (Family::Grid, GRID * ROOMS),
-    (Family::Allowed, ROOMS * 1_000),
-    (Family::OneRefused, REFUSED * 200),
-    (Family::BothRefused, REFUSED * 200),
-    (Family::LowBits, 1_400),
-    (Family::AnyNumbers, 3_000),
-    (Family::LongBuffers, 400),
-    (Family::OneLevel, 4_000),
-    (Family::Levels, 1_000),
+    (Family::Grid, GRID),
+    (Family::Small, SMALL),
+    (Family::Allowed, 20_000),
+    (Family::OneRefused, REFUSED * 1_000),
+    (Family::TwoRefused, 5_000),
+    (Family::LowBits, 7_000),
+    (Family::AnyNumbers, 10_000),
+    (Family::OneLevel, 5_000),
+    (Family::Levels, 1_200),
 ];
 
 impl Family {
     /// Whether cases of it are accepted, and whether cases of it are refused.
     pub fn answers(self) -> [bool; 2] {
         match self {
-            Family::OneRefused | Family::BothRefused | Family::LowBits => [false, true],
-            Family::OneLevel | Family::Levels => [true, false],
+            Family::OneRefused | Family::TwoRefused | Family::LowBits => [false, true],
+            Family::Small | Family::Allowed | Family::OneLevel | Family::Levels => [true, false],
             _ => [true, true],
         }
     }
@@ -108,40 +103,18 @@ pub fn case(seed: u64, number: usize) -> Case {
         number,
         family,
         numbers,
-        room: room(family, place, numbers.n, random),
-        shift: random.between(0, 15) as usize,
         cutting,
     }
 }
 
 fn numbers_of(family: Family, place: usize, random: &mut Random) -> Numbers {
     match family {
-        Family::Grid => numbers::grid(place / ROOMS),
+        Family::Grid => numbers::grid(place),
+        Family::Small => numbers::small(place),
         Family::OneRefused => numbers::refused(place, random),
-        Family::BothRefused => {
-            let mut refused = numbers::refused(place, random);
-            refused.n = refused.n.max(1);
-            refused
-        }
+        Family::TwoRefused => numbers::twice_refused(place, random),
         Family::LowBits => numbers::low_bits(place, random),
         Family::AnyNumbers => numbers::any(random),
-        Family::LongBuffers if place % 4 == 3 => numbers::refused(place / 4, random),
-        _ => numbers::allowed(random),
-    }
-}
-
-/// The bytes of the buffer.
-fn room(family: Family, place: usize, n: u64, random: &mut Random) -> usize {
-    let exact = numbers::asked_for(n);
-    let short = random.between(0, n.saturating_sub(1).min(300)) as usize;
-    match family {
-        Family::Grid | Family::Allowed => numbers::room(n, place, random),
-        Family::LowBits => random.one_of(&[exact, exact, exact + 1, n.min(70_000) as usize]),
-        Family::BothRefused => random.one_of(&[exact.saturating_sub(1), short, 0]),
-        Family::AnyNumbers => numbers::room(n, random.between(0, 99) as usize, random),
-        Family::LongBuffers => numbers::long_room(n, random),
-        Family::OneRefused | Family::OneLevel | Family::Levels => {
-            exact + random.one_of(&[0, 0, 0, 1, 8, 100])
-        }
+        Family::Allowed | Family::OneLevel | Family::Levels => numbers::allowed(random),
     }
 }

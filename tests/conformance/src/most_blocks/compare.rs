@@ -5,13 +5,12 @@ use super::cutting::{cut, Cut};
 use super::numbers::Numbers;
 use crate::clock::timed;
 use crate::failure::{Difference, Failure};
-use crate::lent::Lent;
 use crate::random::Random;
 use crate::tree::Tree;
 use reference::rcds::rcds_most_blocks;
 
 /// `rcds_most_blocks` as C declares it.
-pub type MostBlocks = unsafe extern "C" fn(u64, u64, u64, *mut u8, usize) -> u64;
+pub type MostBlocks = unsafe extern "C" fn(u64, u64, u64) -> u64;
 
 /// It, and the call that cuts.
 #[derive(Clone, Copy)]
@@ -24,7 +23,7 @@ pub struct Calls {
 #[derive(Debug)]
 pub struct Done {
     pub answer: u64,
-    /// The cuttings of the file, and those of the other string.
+    /// The cuttings of equal bytes, and those of the other string.
     pub cut: Option<[Cut; 2]>,
 }
 
@@ -40,38 +39,25 @@ pub fn compare(case: &Case, calls: Calls) -> Result<Done, Failure> {
             difference,
         }
     };
+    let answer = call(case.numbers, calls.most_blocks).map_err(failure("rcds_most_blocks"))?;
     let mut random = Random::of_case(case.seed ^ 1, case.number);
-    let random = &mut random;
-    let (answer, buffer) =
-        call(case, calls.most_blocks, random).map_err(failure("rcds_most_blocks"))?;
-    let cut = cut_both(case, &buffer, calls.tree, random).map_err(failure("rcds_tree"))?;
+    let cut = cut_both(case, calls.tree, &mut random).map_err(failure("rcds_tree"))?;
     Ok(Done { answer, cut })
 }
 
-/// The answer, and the buffer after it.
-fn call(
-    case: &Case,
-    function: MostBlocks,
-    random: &mut Random,
-) -> Result<(u64, Vec<u8>), Difference> {
-    let before = random.bytes(case.room);
-    let mut buffer = Lent::new("buffer", &before, case.shift, random);
-    let Numbers { n, w, h } = case.numbers;
-    // The buffer is there in full.
-    let given = timed(|| unsafe { function(n, w, h, buffer.pointer(), buffer.length()) });
-    let mut expected_buffer = before;
-    let expected = rcds_most_blocks(n, w, h, &mut expected_buffer);
-    if given != expected {
-        return Err(Difference::Answer { expected, given });
+fn call(numbers: Numbers, function: MostBlocks) -> Result<u64, Difference> {
+    let Numbers { n, w, h } = numbers;
+    // Nothing is lent.
+    let given = timed(|| unsafe { function(n, w, h) });
+    match rcds_most_blocks(n, w, h) {
+        expected if expected == given => Ok(given),
+        expected => Err(Difference::Answer { expected, given }),
     }
-    buffer.expect(&expected_buffer)?;
-    Ok((given, buffer.bytes().to_vec()))
 }
 
-/// Cuts the file, which stands at the front of the buffer, and the other string.
+/// Cuts as many equal bytes as the other string has, and that string.
 fn cut_both(
     case: &Case,
-    buffer: &[u8],
     function: Tree,
     random: &mut Random,
 ) -> Result<Option<[Cut; 2]>, Difference> {
@@ -79,8 +65,8 @@ fn cut_both(
         return Ok(None);
     };
     let (settings, string) = (&cutting.settings, &cutting.string);
-    let file = &buffer[..string.len()];
-    let of_file = cut(settings, file, true, function, random)?;
+    let equal = vec![cutting.byte; string.len()];
+    let of_equal = cut(settings, &equal, true, function, random)?;
     let of_string = cut(settings, string, false, function, random)?;
-    Ok(Some([of_file, of_string]))
+    Ok(Some([of_equal, of_string]))
 }

@@ -1,5 +1,5 @@
-//! What is cut after an accepted call, and what its nodes must be: the file that the call wrote, of which every node
-//! has as many blocks as one cutting can give, and another string of n bytes, of which none has more.
+//! What is cut after an accepted call, and what its nodes must be: n equal bytes, of which every node has one block,
+//! however many the call answers, and another string of n bytes, of which no node has more than one cutting can give.
 
 use super::numbers::{length, Numbers, LONGEST, MOST_DISTANCE};
 use crate::clock::timed;
@@ -7,13 +7,14 @@ use crate::content::{self, Content, KINDS};
 use crate::failure::Difference;
 use crate::lent::Lent;
 use crate::random::Random;
-use crate::settings::{any_allowed, any_length, most_nodes};
+use crate::settings::{any_allowed, any_length};
 use crate::tree::Tree;
 use reference::most_blocks::bound;
 use reference::node_table;
 use reference::rcds::ACCEPTED;
 use reference::settings::Settings;
 use reference::tree::Node;
+use reference::vectors::{ruler, FULL_RULER, LONG_RULER, RULED};
 
 /// What the other string holds.
 #[derive(Clone, Copy, Debug, PartialEq, Eq)]
@@ -25,9 +26,10 @@ pub enum Text {
     Period(u64),
 }
 
-/// The settings that both are cut by, and the other string.
+/// The settings that both are cut by, the byte that is equal in the one, and the other.
 pub struct Cutting {
     pub settings: Settings,
+    pub byte: u8,
     pub text: Text,
     pub string: Vec<u8>,
 }
@@ -75,23 +77,30 @@ pub fn one_level(place: usize, random: &mut Random) -> Cutting {
     cutting(settings, n as usize, place, random)
 }
 
-/// A cutting by any number of levels; every twentieth with settings by which zeros give most nodes, of which 8 allows
-/// those of 4,527 bytes.
+/// A cutting by any number of levels; every twentieth of a ruler of about as many nodes as 8 allows.
 pub fn levels(place: usize, random: &mut Random) -> Cutting {
-    let (settings, n) = match place % 20 {
-        0 => (most_nodes(), random.between(4_000, 6_000) as usize),
-        _ => {
-            let settings = any_allowed(random);
-            let n = any_length(&settings, 0, LONGEST_OF_LEVELS, random);
-            (settings, n)
-        }
-    };
+    if place % 20 == 0 {
+        let n = random.between(FULL_RULER as u64 - 20, LONG_RULER as u64) as usize;
+        return of_text(RULED, Text::Of(Content::Ruler), ruler(n));
+    }
+    let settings = any_allowed(random);
+    let n = any_length(&settings, 0, LONGEST_OF_LEVELS, random);
     cutting(settings, n, place / 20, random)
+}
+
+/// Zeros stand beside the text.
+fn of_text(settings: Settings, text: Text, string: Vec<u8>) -> Cutting {
+    Cutting {
+        settings,
+        byte: 0,
+        text,
+        string,
+    }
 }
 
 fn cutting(settings: Settings, n: usize, place: usize, random: &mut Random) -> Cutting {
     let h = settings.rule(1).distance as u64;
-    let about = random.one_of(&[h, h, h + 1, (h - 1).max(1)]);
+    let about = random.one_of(&[h + 1, h + 1, h + 2, h, (h - 1).max(1)]);
     let text = match place % 4 {
         0 => Text::Spaced(about),
         1 => Text::Period(about),
@@ -105,10 +114,10 @@ fn cutting(settings: Settings, n: usize, place: usize, random: &mut Random) -> C
             bytes.iter().copied().cycle().take(n).collect()
         }
     };
+    let any = random.number() as u8;
     Cutting {
-        settings,
-        text,
-        string,
+        byte: random.one_of(&[0, 0, 7, any]),
+        ..of_text(settings, text, string)
     }
 }
 
@@ -131,11 +140,11 @@ pub struct Cut {
     pub have: usize,
 }
 
-/// Cuts a string, of zeros or another, and compares the blocks of each node with the most that it can have.
+/// Cuts a string, of equal bytes or another, and compares the blocks of each node with the most that it can have.
 pub fn cut(
     settings: &Settings,
     string: &[u8],
-    zeros: bool,
+    equal: bool,
     function: Tree,
     random: &mut Random,
 ) -> Result<Cut, Difference> {
@@ -146,13 +155,13 @@ pub fn cut(
     if settings.levels == 1 {
         // The nodes are the string and its blocks.
         let blocks = (given - ACCEPTED).saturating_sub(1);
-        expect(settings, 0, 0, string.len(), blocks, zeros)?;
+        expect(settings, 0, 0, string.len(), blocks, equal)?;
     }
     let expected = ACCEPTED + nodes.len() as u64;
     if given != expected {
         return Err(Difference::Answer { expected, given });
     }
-    each_node(settings, &nodes, zeros)
+    each_node(settings, &nodes, equal)
 }
 
 /// The answer, and the nodes that the table then holds.
@@ -192,26 +201,26 @@ fn refused(settings: &Settings, given: u64) -> Result<Cut, Difference> {
     }
 }
 
-/// That a node of this level and length has as many blocks as one cutting can give, if it is of zeros, and else no
-/// more. As many as it can give.
+/// That a node of this level and length has one block, if its bytes are equal, and else no more than one cutting can
+/// give. As many as it can give.
 fn expect(
     settings: &Settings,
     node: usize,
     level: u64,
     length: usize,
     given: u64,
-    zeros: bool,
+    equal: bool,
 ) -> Result<u64, Difference> {
     let h = settings.rule(level + 1).distance as u64;
-    let most = bound(length as u64, settings.window, h);
-    let least = if zeros { most } else { 1 };
-    match (least..=most).contains(&given) {
-        true => Ok(most),
+    let bound = bound(length as u64, settings.window, h);
+    let most = if equal { 1 } else { bound };
+    match (1..=most).contains(&given) {
+        true => Ok(bound),
         false => Err(Difference::Blocks { node, most, given }),
     }
 }
 
-fn each_node(settings: &Settings, nodes: &[Node], zeros: bool) -> Result<Cut, Difference> {
+fn each_node(settings: &Settings, nodes: &[Node], equal: bool) -> Result<Cut, Difference> {
     let mut blocks = vec![0; nodes.len()];
     for node in &nodes[1..] {
         // Whether a node names one that there is, is asked by the cases of `rcds_tree`.
@@ -222,7 +231,7 @@ fn each_node(settings: &Settings, nodes: &[Node], zeros: bool) -> Result<Cut, Di
     let mut cut = Cut::default();
     for (k, node) in nodes.iter().enumerate() {
         if node.level < settings.levels {
-            let most = expect(settings, k, node.level, node.length, blocks[k], zeros)?;
+            let most = expect(settings, k, node.level, node.length, blocks[k], equal)?;
             cut.could += usize::from(most > 1);
             cut.have += usize::from(most > 1 && blocks[k] == most);
         }

@@ -1,5 +1,4 @@
-//! `rcds_most_blocks`: the most blocks that one cutting can give, and a file that gives as many, which
-//! `rcds_tree` cuts.
+//! `rcds_most_blocks`: the most blocks that one cutting can give, and strings of that length, which `rcds_tree` cuts.
 
 mod cases;
 mod compare;
@@ -17,7 +16,7 @@ use crate::failure::Failure;
 
 /// Runs every case of the seed, asserts that they had something to find, and says what they were.
 pub fn run_all(seed: u64, calls: Calls) -> Result<Vec<String>, Failure> {
-    assert!(cases::count() >= 20_000);
+    assert!(cases::count() >= 100_000);
     let report = report::run(seed, cases::count(), calls)?;
     report.assert_complete();
     Ok(vec![format!("rcds_most_blocks, seed {seed}: {report}")])

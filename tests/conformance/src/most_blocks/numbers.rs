@@ -1,4 +1,4 @@
-//! n, w and h, allowed or not, and the bytes of a buffer that goes with them.
+//! n, w and h, allowed or not.
 
 use crate::random::Random;
 
@@ -17,16 +17,27 @@ pub const MOST_DISTANCE: u64 = 32_768;
 /// Every w of the grid is below this.
 const WINDOWS: usize = 15;
 
-const DISTANCES: [u64; 11] = [
+const DISTANCES: [u64; 22] = [
     0,
     1,
     2,
     3,
     7,
+    8,
+    12,
+    31,
+    32,
+    33,
+    100,
+    1_000,
+    2_047,
+    16_384,
     MOST_DISTANCE - 1,
     MOST_DISTANCE,
     MOST_DISTANCE + 1,
+    LONGEST,
     1 << 32,
+    (1 << 32) + 1,
     1 << 63,
     u64::MAX,
 ];
@@ -72,6 +83,25 @@ pub fn grid(place: usize) -> Numbers {
     Numbers { n, w, h }
 }
 
+/// The small numbers: every w that is allowed, every h and every n up to these.
+const SMALL_WINDOWS: usize = 11;
+const SMALL_DISTANCES: usize = 40;
+const SMALL_LENGTHS: usize = 121;
+
+/// How many small numbers there are.
+pub const SMALL: usize = SMALL_WINDOWS * SMALL_DISTANCES * SMALL_LENGTHS;
+
+/// The small numbers of this place.
+pub fn small(place: usize) -> Numbers {
+    let (w, rest) = (place % SMALL_WINDOWS, place / SMALL_WINDOWS);
+    let (h, n) = (rest % SMALL_DISTANCES, rest / SMALL_DISTANCES);
+    Numbers {
+        n: n as u64,
+        w: 2 + w as u64,
+        h: 1 + h as u64,
+    }
+}
+
 /// Numbers that are allowed: any length; or one around so many distances after a window, one more or less, where
 /// a string has room for them.
 pub fn allowed(random: &mut Random) -> Numbers {
@@ -87,13 +117,16 @@ pub fn allowed(random: &mut Random) -> Numbers {
     }
 }
 
-/// A length up to `most`.
+/// A length up to `most`. Cuts are more than h apart, so that a string has room for k of them from k × (h + 1) + h + w − 1
+/// on, which is not far from k + 1 distances after a window while k is small.
 pub fn length(w: u64, h: u64, most: u64, random: &mut Random) -> u64 {
     let distances = random.between(0, (most / h).min(34));
     let near = around(w, h, distances, random.between(0, 2));
-    match random.between(0, 5) {
+    let room = around(w + h - 1, h + 1, distances, random.between(0, 2));
+    match random.between(0, 6) {
         0 => random.by_size(0, most),
         1 => random.between(0, 2 * w).min(most),
+        2 | 3 => room.min(most),
         _ => near.min(most),
     }
 }
@@ -103,13 +136,42 @@ pub const REFUSED: usize = 5;
 
 /// Numbers of which 24 refuses one: w too small or too large, h too small or too large, or n.
 pub fn refused(place: usize, random: &mut Random) -> Numbers {
-    let mut numbers = allowed(random);
+    with_a_no(allowed(random), place, random)
+}
+
+/// Numbers of which 24 refuses two.
+pub fn twice_refused(place: usize, random: &mut Random) -> Numbers {
+    let pairs = [
+        (0, 2),
+        (0, 3),
+        (0, 4),
+        (1, 2),
+        (1, 3),
+        (1, 4),
+        (2, 4),
+        (3, 4),
+    ];
+    let (one, other) = pairs[place % pairs.len()];
+    with_a_no(refused(one, random), other, random)
+}
+
+/// The numbers with one in its place that 24 refuses.
+fn with_a_no(mut numbers: Numbers, place: usize, random: &mut Random) -> Numbers {
+    let too_long = [
+        LONGEST + 1,
+        LONGEST + 1,
+        LONGEST + 2,
+        70_000,
+        131_072,
+        1 << 63,
+        u64::MAX,
+    ];
     match place % REFUSED {
         0 => numbers.w = random.one_of(&[0, 1, 1]),
         1 => numbers.w = random.one_of(&[13, 13, 14, 99, 1 << 63, u64::MAX]),
         2 => numbers.h = 0,
         3 => numbers.h = random.one_of(&[MOST_DISTANCE + 1, LONGEST, 1 << 63, u64::MAX]),
-        _ => numbers.n = random.one_of(&[LONGEST + 1, LONGEST + 1, LONGEST + 2, 70_000, 131_072]),
+        _ => numbers.n = random.one_of(&too_long),
     }
     numbers
 }
@@ -142,36 +204,4 @@ pub fn any(random: &mut Random) -> Numbers {
         w,
         h: random.by_size(0, u64::MAX),
     }
-}
-
-/// The most bytes of a buffer that is exactly as long as n, or about.
-const LONGEST_ROOM: u64 = 140_000;
-
-/// The bytes that n asks for; of an n too large for a buffer, those that its low 32 or 16 bits ask for.
-pub fn asked_for(n: u64) -> usize {
-    let all = [n, n & 0xffff_ffff, n & 0xffff];
-    let few = all.into_iter().find(|&bytes| bytes <= LONGEST_ROOM);
-    few.expect("16 bits are few enough") as usize
-}
-
-/// How many kinds of buffer there are.
-pub const ROOMS: usize = 6;
-
-/// The bytes of a buffer of this kind: as many as n, one less, some more, none, or any number of them.
-pub fn room(n: u64, kind: usize, random: &mut Random) -> usize {
-    let exact = asked_for(n);
-    match kind % ROOMS {
-        0 => exact,
-        1 => exact.saturating_sub(1),
-        2 => exact + random.one_of(&[1, 2, 7, 8, 9, 100]),
-        3 => 0,
-        4 => exact / 2,
-        _ => random.by_size(0, 300) as usize,
-    }
-}
-
-/// The bytes of a buffer that is long enough, longer than a string may be.
-pub fn long_room(n: u64, random: &mut Random) -> usize {
-    let more = random.one_of(&[LONGEST + 1, LONGEST + 2, 70_000, 131_072, 200_000]);
-    more.max(asked_for(n) as u64) as usize
 }

@@ -12,27 +12,23 @@ use reference::rcds::ACCEPTED;
 use std::collections::{BTreeMap, BTreeSet};
 use std::fmt;
 
-/// The questions that `rcds_most_blocks` asks.
-const QUESTIONS: [u64; 2] = [23, 24];
+/// The question that `rcds_most_blocks` asks.
+const QUESTION: u64 = 24;
 
 /// What ran.
 #[derive(Default)]
 pub struct Report {
     cases: usize,
     accepted: usize,
-    refused: BTreeMap<u64, usize>,
+    refused: usize,
     /// Accepted cases by their blocks, and those whose length would have room for more than 32.
     blocks: BTreeMap<u64, usize>,
     capped: usize,
     /// Accepted cases by what stands at an end of what is allowed.
     ends: BTreeMap<&'static str, usize>,
-    /// Accepted and refused without a buffer.
-    null: [usize; 2],
-    /// Refused by 23 with one byte too few, and where 24 has a no as well.
-    one_short: usize,
-    both: usize,
-    /// Refused by 24 for one reason alone.
+    /// Refused for one reason alone, and for two at once.
     alone: BTreeMap<&'static str, usize>,
+    two: usize,
     cut: CutReport,
     /// Accepted and refused cases of each family.
     families: BTreeMap<Family, [usize; 2]>,
@@ -45,11 +41,11 @@ struct CutReport {
     levels: BTreeMap<u64, usize>,
     /// Trees that 8 refused.
     refused: usize,
-    /// Nodes that could have several blocks, and those that have as many as they can: of zeros, and of other strings.
+    /// Nodes for which several blocks are allowed: of equal bytes and of other strings; and those of zeros.
     could: [usize; 2],
-    have: [usize; 2],
-    /// The same of strings with bytes that are not equal.
-    mixed: [usize; 2],
+    zeros: usize,
+    /// Those of other strings that have as many as are allowed.
+    have: usize,
     contents: BTreeSet<String>,
     spaced: usize,
     periods: usize,
@@ -82,7 +78,7 @@ fn noes(numbers: Numbers) -> Vec<&'static str> {
 }
 
 /// What of an accepted case stands at an end.
-fn ends(numbers: Numbers, room: u64) -> [(&'static str, bool); 11] {
+fn ends(numbers: Numbers) -> [(&'static str, bool); 8] {
     let Numbers { n, w, h } = numbers;
     [
         ("w 2", w == 2),
@@ -93,9 +89,6 @@ fn ends(numbers: Numbers, room: u64) -> [(&'static str, bool); 11] {
         ("n 65,536", n == LONGEST),
         ("n below w", n < w),
         ("n equal w", n == w),
-        ("buffer of n", room == n),
-        ("buffer above n", room > n),
-        ("buffer above 65,536", room > LONGEST),
     ]
 }
 
@@ -104,7 +97,6 @@ impl Report {
         let refused = done.answer < ACCEPTED;
         self.cases += 1;
         self.families.entry(case.family).or_default()[usize::from(refused)] += 1;
-        self.null[usize::from(refused)] += usize::from(case.room == 0);
         match refused {
             true => self.add_refused(case, done.answer),
             false => self.add_accepted(case, done.answer - ACCEPTED),
@@ -115,13 +107,11 @@ impl Report {
     }
 
     fn add_refused(&mut self, case: &Case, question: u64) {
-        let noes = noes(case.numbers);
-        *self.refused.entry(question).or_default() += 1;
-        if question == 23 {
-            self.one_short += usize::from(case.room as u64 == case.numbers.n - 1);
-            self.both += usize::from(!noes.is_empty());
-        } else if let [alone] = noes[..] {
-            *self.alone.entry(alone).or_default() += 1;
+        assert_eq!(question, QUESTION, "another question refused a case");
+        self.refused += 1;
+        match noes(case.numbers)[..] {
+            [alone] => *self.alone.entry(alone).or_default() += 1,
+            _ => self.two += 1,
         }
     }
 
@@ -130,26 +120,21 @@ impl Report {
         self.accepted += 1;
         *self.blocks.entry(blocks).or_default() += 1;
         self.capped += usize::from(n.saturating_sub(w) / h > blocks);
-        for (name, is) in ends(case.numbers, case.room as u64) {
+        for (name, is) in ends(case.numbers) {
             *self.ends.entry(name).or_default() += usize::from(is);
         }
     }
 
-    /// That both questions refused, every number of blocks and every end of what is allowed did occur, and in every
+    /// That every reason to refuse, every number of blocks and every end of what is allowed did occur, and in every
     /// family the answers that it can have, so that the run had something to find.
     pub fn assert_complete(&self) {
-        let refused: Vec<u64> = self.refused.keys().copied().collect();
-        assert_eq!(refused, QUESTIONS, "questions that refused a case");
         assert!(self.blocks.keys().copied().eq(1..=32), "numbers of blocks");
         assert!(self.capped > 0, "no length for more than 32 blocks");
         for (name, count) in &self.ends {
             assert!(*count > 0, "{name} was not accepted");
         }
-        let null = self.null.iter().all(|&count| count > 0);
-        assert!(null, "no buffer: {:?}", self.null);
-        assert!(self.one_short > 0, "no buffer was one byte too short");
-        assert!(self.both > 0, "23 never came before 24");
         assert_eq!(self.alone.len(), 5, "reasons of 24: {:?}", self.alone);
+        assert!(self.two > 0, "no case had two reasons");
         self.cut.assert_complete();
         for (family, _) in FAMILIES {
             let counts = self.families[&family];
@@ -165,13 +150,10 @@ impl CutReport {
         for (k, cut) in cut.iter().enumerate() {
             self.refused += usize::from(cut.refused);
             self.could[k] += cut.could;
-            self.have[k] += cut.have;
         }
-        let [_, other] = cut;
-        if cutting.string.windows(2).any(|pair| pair[0] != pair[1]) {
-            self.mixed[0] += other.could;
-            self.mixed[1] += other.have;
-        }
+        let [equal, other] = cut;
+        self.zeros += if cutting.byte == 0 { equal.could } else { 0 };
+        self.have += other.have;
         match cutting.text {
             Text::Of(content) => drop(self.contents.insert(format!("{content:?}"))),
             Text::Spaced(_) => self.spaced += 1,
@@ -182,11 +164,10 @@ impl CutReport {
     fn assert_complete(&self) {
         assert!(self.levels.keys().copied().eq(1..=4), "levels");
         assert!(self.refused > 0, "8 refused no tree");
-        assert_eq!(self.could[0], self.have[0], "nodes of zeros");
-        for [could, have] in [[self.could[1], self.have[1]], self.mixed] {
-            assert!(have > 500, "{have} nodes have the most blocks");
-            assert!(could - have > 500, "of {could} nodes {have} have them");
-        }
+        let ([equal, others], zeros, have) = (self.could, self.zeros, self.have);
+        assert!(zeros > 500 && equal - zeros > 500, "{zeros} of {equal}");
+        assert!(have > 300, "{have} nodes have the most blocks");
+        assert!(others - have > 500, "of {others} nodes {have} have them");
         let contents = self.contents.len();
         assert_eq!(contents, KINDS.len(), "a kind of content did not occur");
         assert!(self.spaced > 0 && self.periods > 0, "texts by distances");
@@ -197,18 +178,15 @@ impl fmt::Display for Report {
     fn fmt(&self, f: &mut fmt::Formatter) -> fmt::Result {
         write!(
             f,
-            "{} cases as the reference has them: accepted {} (by their blocks {}; {} with room for more; {}; {} without a buffer); refused {} ({} with one byte too few, {} where 24 has a no too; by 24 for one reason alone: {}; {} without a buffer); {}; accepted and refused of each family: {}",
+            "{} cases as the reference has them: accepted {} (by their blocks {}; {} with room for more; {}); refused by {QUESTION} {} (for one reason alone: {}; for more than one {}); {}; accepted and refused of each family: {}",
             self.cases,
             self.accepted,
             counted(&self.blocks, |blocks| format!("{blocks}:")),
             self.capped,
             counted(&self.ends, |name| name.to_string()),
-            self.null[0],
-            counted(&self.refused, |question| format!("by {question}")),
-            self.one_short,
-            self.both,
+            self.refused,
             counted(&self.alone, |name| name.to_string()),
-            self.null[1],
+            self.two,
             self.cut,
             of_families(&self.families),
         )
@@ -219,14 +197,13 @@ impl fmt::Display for CutReport {
     fn fmt(&self, f: &mut fmt::Formatter) -> fmt::Result {
         write!(
             f,
-            "trees of zeros and as many of other strings, by their levels {} ({} refused by 8); {} nodes of zeros that can have several blocks, all with the most; {} of other strings, {} with the most, of bytes that are not equal {} and {}",
+            "trees of equal bytes and as many of other strings, by their levels {} ({} refused by 8); nodes for which several blocks are allowed: {} of equal bytes, all with one block, {} of them of zeros; {} of other strings, {} with as many as are allowed",
             counted(&self.levels, |levels| format!("{levels}:")),
             self.refused,
             self.could[0],
+            self.zeros,
             self.could[1],
-            self.have[1],
-            self.mixed[0],
-            self.mixed[1],
+            self.have,
         )
     }
 }

@@ -8,12 +8,12 @@ use crate::content::{self, Content, KINDS};
 use crate::failure::first_bytes;
 use crate::random::{family_of, together, Random};
 use crate::settings::{
-    any_allowed, any_length, edge_settings, many_nodes, most_nodes, shortest_blocks, with_nominal,
-    NOMINALS,
+    any_allowed, any_length, edge_settings, many_nodes, shortest_blocks, with_nominal, NOMINALS,
 };
 use reference::lent::Lent;
 use reference::sender;
 use reference::settings::Settings;
+use reference::vectors::{FULL_RULER, RULED};
 use std::fmt;
 
 /// One call.
@@ -127,7 +127,7 @@ pub enum Family {
     LateShingles,
     /// Both.
     AlteredBoth,
-    /// Strings of equal bytes that have thousands of nodes.
+    /// Rulers and random strings that have thousands of nodes.
     ManyNodes,
     /// Strings of up to 5,000 bytes.
     Middle,
@@ -284,7 +284,7 @@ fn settings(family: Family, place: usize, random: &mut Random) -> Settings {
             );
             with_nominal(w, p, levels, random)
         }
-        Family::ManyNodes if place % 3 == 0 => most_nodes(),
+        Family::ManyNodes if place % 3 == 0 => RULED,
         Family::ManyNodes => many_nodes(random),
         Family::Repeated if place % 2 == 0 => many_nodes(random),
         _ => any_allowed(random),
@@ -324,11 +324,13 @@ fn content(family: Family, place: usize, random: &mut Random) -> Content {
             Content::Edited,
             Content::Random,
         ]),
-        Family::ManyNodes => [Content::Zeros, Content::AllEqual][place % 2],
+        Family::ManyNodes if place % 3 == 0 => Content::Ruler,
+        Family::ManyNodes => [Content::Random, Content::Ruler][place % 2],
         Family::Long if place % 6 == 0 => [Content::Zeros, Content::Random][place / 6 % 2],
         Family::Repeated => random.one_of(&[
             Content::Zeros,
             Content::AllEqual,
+            Content::Ruler,
             Content::Repeats,
             Content::Edited,
             Content::HashesToZero,
@@ -340,8 +342,8 @@ fn content(family: Family, place: usize, random: &mut Random) -> Content {
 fn length(family: Family, place: usize, settings: &Settings, random: &mut Random) -> usize {
     match family {
         Family::HighNumber => random.between(60, 200) as usize,
-        Family::SeveralTrails | Family::EveryNode => random.between(6, 40) as usize,
-        Family::ManyNodes if place % 3 == 0 => 4_527,
+        Family::SeveralTrails | Family::EveryNode => random.between(11, 60) as usize,
+        Family::ManyNodes if place % 3 == 0 => FULL_RULER,
         Family::ManyNodes => random.by_size(2_000, 12_000) as usize,
         Family::EndOutside => any_length(settings, 20, 2_000, random),
         Family::Middle => any_length(settings, 600, 5_000, random),

@@ -94,6 +94,9 @@ const OMITTED_WHERE_OTHERS_ARE: u8 = 70;
 const NUMBER_AFTER_THE_REFERENCES: u8 = 71;
 const OMITTED_BUT_COUNTED: u8 = 72;
 const MISPLACED_BY_11: u8 = 73;
+const RULE_1: u8 = 74;
+const RULE_3: u8 = 75;
+const RULE_OF_THE_WINDOW: u8 = 76;
 
 // Where the reply is free: the highest numbers.
 const FREE_REPLY_NO_MESSAGE: u8 = 100;
@@ -179,7 +182,13 @@ fn opening(fault: u8, settings: &Settings, width: u64, lent: &Lent) -> Body {
         _ => lent.string.len(),
     };
     Body::Opening(Opening {
-        rule: u32::from(fault != RULE_0),
+        rule: match fault {
+            RULE_0 => 0,
+            RULE_1 => 1,
+            RULE_3 => 3,
+            RULE_OF_THE_WINDOW => settings.window as u32,
+            _ => 2,
+        },
         window: settings.window as u32,
         fan_out: settings.fan_out as u32,
         levels: settings.levels as u32,
@@ -525,7 +534,7 @@ fn every_fault_is_found() {
         COUNTS_OF_THE_LIST COUNTS_ALWAYS_1 INDEX_FROM_1 PAIR_AT_ANY_LEVEL REFERENCES_FALLING
         REFERENCES_AS_THE_CHILDREN_COME REFERENCE_FOR_EACH_CHILD NUMBER_ALWAYS_0 GRANDCHILDREN_TOO
         LAST_CHILD_LEFT_OUT LENGTH_AT_SETUP ROOT_OF_THE_STRING CELLS_OF_THE_LIST CELL_VALUES_REORDERED
-        RULE_0 SESSION_16_BITS SESSION_0 EXACT_ROOM_REFUSED WRITTEN_AT_20 REST_CLEARED
+        RULE_0 RULE_1 RULE_3 RULE_OF_THE_WINDOW SESSION_16_BITS SESSION_0 EXACT_ROOM_REFUSED WRITTEN_AT_20 REST_CLEARED
         CLEARED_WHEN_REFUSED COUNTS_WORDS STATE_CHANGED STRING_CHANGED NODES_CHANGED SHINGLES_CHANGED
         CELLS_CHANGED MESSAGE_CHANGED PAST_THE_BUFFER BEFORE_THE_BUFFER NUMBER_ALWAYS_WRITTEN
         NUMBER_NEVER_WRITTEN NUMBER_0_OMITTED OMITTED_OF_ONE_CHILD_ALONE

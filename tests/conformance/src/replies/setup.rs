@@ -2,7 +2,6 @@
 //! them; that the library makes the same is tested with `rcds_sender_setup`.
 
 use crate::random::Random;
-use crate::settings::most_nodes;
 use reference::lent::Lent;
 use reference::node_table;
 use reference::rcds::ACCEPTED;
@@ -11,6 +10,7 @@ use reference::sender;
 pub use reference::sender::held;
 use reference::settings::Settings;
 use reference::tree::Node;
+use reference::vectors::RULED;
 
 /// More bytes than any reply has.
 const ENOUGH: usize = 90_000;
@@ -38,7 +38,7 @@ impl Sender {
             },
         };
         if sender.lent.set_up(&settings, width) < ACCEPTED {
-            sender.settings = most_nodes();
+            sender.settings = RULED;
             sender.lent.string.truncate(4_000);
             let answer = sender.lent.set_up(&sender.settings, width);
             assert!(answer >= ACCEPTED, "a setup that is allowed: {answer}");

@@ -5,7 +5,7 @@ use super::strings::{self, Pair};
 use crate::content::{self, Content, KINDS};
 use crate::failure::first_bytes;
 use crate::random::{family_of, together, Random};
-use crate::settings::{edge_settings, many_nodes, most_nodes, shortest_blocks, NOMINALS};
+use crate::settings::{edge_settings, many_nodes, shortest_blocks, NOMINALS};
 use reference::lent::Lent as Memory;
 use reference::message::{encode, Body, Message};
 use reference::rcds::ACCEPTED;
@@ -14,6 +14,7 @@ use reference::receiver_state::{self, STATE_BYTES};
 use reference::reply::reply;
 use reference::sender;
 use reference::settings::Settings;
+use reference::vectors::{ruler, FULL_RULER, RULED};
 use std::fmt;
 
 /// One session.
@@ -111,13 +112,13 @@ pub enum Family {
     OddSettings,
     /// Orders with high numbers, so that nodes above the last level have literals.
     ManyTrails,
-    /// Equal bytes and repeats: queries in the same words, one after the other.
+    /// Rulers and repeats: queries in the same words, one after the other.
     SameWords,
     /// States with full piles.
     Piles,
     /// Strings of up to 5,000 bytes.
     Middle,
-    /// Strings of equal bytes that have thousands of nodes, or too many.
+    /// Rulers and random strings that have thousands of nodes, or too many.
     ManyNodes,
     /// Strings of up to 65,536 bytes, every third of exactly that many.
     Long,
@@ -158,6 +159,9 @@ pub const FAMILIES: [(Family, usize); 22] = [
     (Family::Announced, 60),
     (Family::Sum, 60),
 ];
+
+/// The longest strings of many nodes. From about 8,000 bytes of a ruler and 10,500 of any bytes on there are too many.
+const LONGEST_OF_MANY: u64 = 12_000;
 
 /// How many cases a run has.
 pub fn count() -> usize {
@@ -248,12 +252,12 @@ fn one_memory(case: &mut Case, place: usize) {
 fn content(family: Family, place: usize, random: &mut Random) -> Content {
     match family {
         Family::ManyTrails | Family::SeveralTrails => Content::FewSymbols,
-        Family::ManyNodes => [Content::Zeros, Content::AllEqual][place % 2],
-        Family::MostReplies | Family::Endless => Content::Zeros,
+        Family::ManyNodes => [Content::Ruler, Content::Random][place % 2],
+        Family::MostReplies | Family::Endless => Content::Ruler,
         Family::Long => [Content::Random, Content::Samples][place % 2],
         Family::SameWords => random.one_of(&[
-            Content::Zeros,
-            Content::AllEqual,
+            Content::Ruler,
+            Content::Repeats,
             Content::Repeats,
             Content::HashesToZero,
         ]),
@@ -264,9 +268,9 @@ fn content(family: Family, place: usize, random: &mut Random) -> Content {
 fn length(family: Family, place: usize, random: &mut Random) -> usize {
     match family {
         Family::ManyTrails => random.between(60, 200) as usize,
-        Family::SeveralTrails => random.between(8, 40) as usize,
-        Family::ManyNodes => random.between(3_000, 7_000) as usize,
-        Family::MostReplies | Family::Endless => 4_527,
+        Family::SeveralTrails => random.between(11, 60) as usize,
+        Family::ManyNodes => random.between(4_000, LONGEST_OF_MANY) as usize,
+        Family::MostReplies | Family::Endless => FULL_RULER,
         Family::Middle => random.by_size(400, 5_000) as usize,
         Family::Long if place % 3 == 0 => 65_536,
         Family::Long => random.by_size(8_000, 65_536) as usize,
@@ -292,9 +296,9 @@ fn settings(family: Family, place: usize, length: usize, random: &mut Random) ->
         }
         Family::ManyTrails => strings::many_trails(random),
         Family::SeveralTrails => shortest_blocks(random),
-        Family::ManyNodes if place % 3 == 0 => most_nodes(),
+        Family::ManyNodes if place % 3 == 0 => RULED,
         Family::ManyNodes => many_nodes(random),
-        Family::MostReplies | Family::Endless => most_nodes(),
+        Family::MostReplies | Family::Endless => RULED,
         // Blocks of some hundred bytes at the last level.
         Family::Long => Settings {
             window: random.between(2, 12),
@@ -314,7 +318,7 @@ fn two_strings(
     random: &mut Random,
 ) -> (Pair, Vec<u8>, Vec<u8>) {
     match family {
-        Family::MostReplies | Family::Endless => (Pair::Unrelated, vec![0; length], vec![1, 2, 3]),
+        Family::MostReplies | Family::Endless => (Pair::Unrelated, ruler(length), vec![1, 2, 3]),
         Family::Long | Family::ManyTrails | Family::ManyNodes => {
             let sender = content::string(content, length, random);
             let mut own = sender.clone();

@@ -119,6 +119,8 @@ pub struct Counts {
     pub altered_states: usize,
     /// Messages refused by one condition alone.
     pub alone: BTreeMap<Alone, usize>,
+    /// Openings refused by 12 for their rule alone, by its number.
+    pub rules: BTreeMap<u32, usize>,
     /// Compositions whose references do not rise, met by 10 at every call and nothing changed; and the
     /// genuine ones that were accepted right after such.
     pub not_rising: BTreeMap<Disorder, usize>,
@@ -165,6 +167,7 @@ impl Counts {
         add_each(&mut self.replied, &other.replied);
         add_each(&mut self.accepted, &other.accepted);
         add_each(&mut self.alone, &other.alone);
+        add_each(&mut self.rules, &other.rules);
         add_each(&mut self.not_rising, &other.not_rising);
         add_each(&mut self.forms, &other.forms);
         add_each(&mut self.other_forms, &other.other_forms);

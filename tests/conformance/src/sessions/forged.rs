@@ -28,7 +28,9 @@ pub enum Forgery {
     /// Any well-formed message.
     AnyMessage,
     AnyBytes,
-    /// An opening with another rule or other settings, length, root or cells.
+    /// An opening with another rule, and nothing else that is not genuine.
+    Rule,
+    /// One with another rule or other settings, length, root or cells.
     Settings,
     Length,
     Root,
@@ -65,7 +67,8 @@ const OF_ANY: [Forgery; 8] = [
     Forgery::AnyMessage,
     Forgery::AnyBytes,
 ];
-const OF_OPENINGS: [Forgery; 7] = [
+const OF_OPENINGS: [Forgery; 8] = [
+    Forgery::Rule,
     Forgery::Settings,
     Forgery::Length,
     Forgery::Root,
@@ -94,6 +97,9 @@ pub fn forgeries() -> impl Iterator<Item = Forgery> {
 
 /// The largest number of 28 bits.
 const LARGEST: u32 = (1 << 28) - 1;
+
+/// Rules that are not 2: the smallest number, the two beside it, and the largest.
+pub const OTHER_RULES: [u32; 4] = [0, 1, 3, LARGEST];
 
 const DAMAGES: [Damage; 9] = [
     Damage::Bits,
@@ -183,6 +189,7 @@ fn spliced(message: &[u8], written: &[Vec<u8>], random: &mut Random) -> Vec<u8> 
 fn change_opening(kind: Forgery, opening: &mut Opening, known: &Known, random: &mut Random) {
     let length = opening.length;
     match kind {
+        Forgery::Rule => opening.rule = random.one_of(&OTHER_RULES),
         Forgery::Settings => other_settings(opening, random),
         // A length that only the buffer allows.
         Forgery::Length if known.room > 65_536 && random.percent(50) => {

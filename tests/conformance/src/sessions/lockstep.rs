@@ -332,6 +332,11 @@ impl<'a> Lockstep<'a> {
         let Some(Message { body, .. }) = parse(message) else {
             return;
         };
+        if let (12, Body::Opening(opening)) = (answer, &body) {
+            if let Some(rule) = why::rule_alone(before, opening) {
+                *self.counts.rules.entry(rule).or_default() += 1;
+            }
+        }
         let memory = &self.receiver.memory;
         let alone = match (answer, &body) {
             (13, _) => why::limit_alone(before, self.output_bytes.len()).then_some(Alone::Limit),

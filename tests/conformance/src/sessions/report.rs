@@ -4,7 +4,7 @@ use super::calls::Calls;
 use super::cases::{case, Family, FAMILIES};
 use super::counts::{lendings, Call, Counts, ALONE, CALLS};
 use super::course;
-use super::forged::forgeries;
+use super::forged::{forgeries, OTHER_RULES};
 use super::other_forms::other_forms;
 use crate::failure::Failure;
 use crate::messages::order::DISORDERS;
@@ -82,11 +82,15 @@ impl Report {
     }
 }
 
-/// That every condition refused a message alone, that references came in every disorder and compositions in
-/// every form, and that pieces were lent in every way.
+/// That every condition refused a message alone, and every other rule an opening, that references came in every
+/// disorder and compositions in every form, and that pieces were lent in every way.
 fn assert_kinds(counts: &Counts) {
     for alone in ALONE {
         assert!(counts.alone.contains_key(&alone), "{alone:?} alone: none");
+    }
+    for rule in OTHER_RULES {
+        let met = counts.rules.contains_key(&rule);
+        assert!(met, "rule {rule} met by 12 alone: none");
     }
     for disorder in DISORDERS {
         let met = counts.not_rising.contains_key(&disorder);
@@ -117,7 +121,7 @@ impl fmt::Display for Report {
             .map(|(family, [sessions, handed])| format!("{family:?} {sessions} and {handed}"));
         write!(
             f,
-            "{} sessions, {calls} calls; handed over {} strings ({} the sender's, {} by the opening alone, the longest of {} bytes); at most {} replies accepted and {} nodes pending; accepted types {}; literals above the last level {}, empty {}; compositions: {}; taken over altered memory {} and altered states {}; refused by one condition alone: {}; compositions not rising, met by 10 at every call: {}, and accepted right after {}; in other forms: {}, and accepted right after {}; pieces lent as null and in one memory: {}; sessions and hand-overs of each family: {}; forged messages, accepted and refused: {}",
+            "{} sessions, {calls} calls; handed over {} strings ({} the sender's, {} by the opening alone, the longest of {} bytes); at most {} replies accepted and {} nodes pending; accepted types {}; literals above the last level {}, empty {}; compositions: {}; taken over altered memory {} and altered states {}; refused by one condition alone: {}; openings met by 12 for their rule alone {}, of them of rule 1 {}; compositions not rising, met by 10 at every call: {}, and accepted right after {}; in other forms: {}, and accepted right after {}; pieces lent as null and in one memory: {}; sessions and hand-overs of each family: {}; forged messages, accepted and refused: {}",
             self.sessions,
             counts.of(Call::Take, ACCEPTED),
             counts.senders_string,
@@ -132,6 +136,8 @@ impl fmt::Display for Report {
             counts.altered_memory,
             counts.altered_states,
             each(&counts.alone),
+            counts.rules.values().sum::<usize>(),
+            counts.rules[&1],
             each(&counts.not_rising),
             counts.accepted_after,
             each(&counts.other_forms),

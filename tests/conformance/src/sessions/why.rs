@@ -6,9 +6,30 @@ use reference::lent::Lent as Memory;
 use reference::message::{Body, Opening};
 use reference::opening::{difference, takings};
 use reference::receiver::{Receiver, Stage, MOST_PENDING};
+use reference::reply::RULE;
 use reference::shingle::Shingle;
 use reference::trail::Pair;
 use std::collections::{BTreeMap, BTreeSet};
+
+/// 12: not "rule", but "settings equal the own". The rule.
+pub fn rule_alone(before: &Receiver, opening: &Opening) -> Option<u32> {
+    let settings = &before.settings;
+    let own = [
+        settings.window,
+        settings.fan_out,
+        settings.levels,
+        settings.nominal,
+        before.width,
+    ];
+    let theirs = [
+        opening.window,
+        opening.fan_out,
+        opening.levels,
+        opening.nominal,
+        opening.width,
+    ];
+    (theirs.map(u64::from) == own && opening.rule != RULE).then_some(opening.rule)
+}
 
 /// 13 of a node reply: not "at most 65,536", but "at most the buffer lent now".
 pub fn limit_alone(before: &Receiver, room: usize) -> bool {

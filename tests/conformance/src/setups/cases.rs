@@ -5,10 +5,10 @@ use crate::content::{self, Content, KINDS};
 use crate::failure::first_bytes;
 use crate::random::{family_of, together, Random};
 use crate::settings::{
-    any_allowed, any_length, edge_nominals, edge_settings, many_nodes, most_nodes, with_nominal,
-    NOMINALS,
+    any_allowed, any_length, edge_nominals, edge_settings, many_nodes, with_nominal, NOMINALS,
 };
 use reference::settings::Settings;
+use reference::vectors::{FULL_RULER, RULED};
 use std::fmt;
 
 /// One call.
@@ -93,10 +93,12 @@ const WIDTHS: [u64; 12] = [
     u64::MAX,
 ];
 
-/// With w=2 p=8 L=4 M=4,096 a string of 4,527 equal bytes has 4,096 nodes. The first of the lengths
-/// around it, and how many they are.
-const FULL: usize = 4_527;
-const LIMIT_FROM: usize = 4_500;
+/// A ruler of this length has 4,096 nodes, and so have those of one and two bytes more. The first of the lengths around it,
+/// those around which random strings have as many, and how many lengths there are of each.
+const FULL: usize = FULL_RULER;
+const LIMIT_FROM: usize = FULL_RULER - 29;
+const RANDOM_LIMIT_FROM: usize = 10_200;
+const RANDOM_LIMIT_STEP: usize = 8;
 const LIMIT_LENGTHS: usize = 60;
 
 /// The families of cases, and how many cases each has.
@@ -119,9 +121,9 @@ const FAMILIES: [(Family, usize); 14] = [
 
 #[derive(Clone, Copy)]
 enum Family {
-    /// Equal bytes that have exactly 4,096 nodes.
+    /// Rulers that have exactly 4,096 nodes.
     Full,
-    /// Strings that have about 4,096 nodes.
+    /// Rulers and random strings that have about 4,096 nodes.
     AtTheLimit,
     /// Every combination of w, p, L and M at or past the ends of what is allowed.
     EdgeSettings,
@@ -135,7 +137,7 @@ enum Family {
     Sizes,
     /// Every w, p and L that is allowed, with M from p^L to 65,536 and any q, over short strings.
     AllSettings,
-    /// Long strings of equal bytes with large p and L, which question 8 may refuse.
+    /// Long strings of many blocks with large p and L, which question 8 may refuse.
     ManyNodes,
     /// The same, with one piece that may be too short.
     ManyNodesOneSize,
@@ -164,7 +166,7 @@ fn family_case(family: Family, place: usize, seed: u64, number: usize) -> Case {
     let mut random = Random::of_case(seed, number);
     let random = &mut random;
     let settings = match family {
-        Family::Full | Family::AtTheLimit => most_nodes(),
+        Family::Full | Family::AtTheLimit => RULED,
         Family::EdgeSettings => edge_settings(place),
         Family::EdgeNominals => edge_nominals(place, random),
         Family::AllSettings => {
@@ -181,13 +183,14 @@ fn family_case(family: Family, place: usize, seed: u64, number: usize) -> Case {
         _ => random.between(1, 64),
     };
     let length = match family {
-        Family::Full => FULL,
-        Family::AtTheLimit => LIMIT_FROM + place % LIMIT_LENGTHS,
+        Family::Full => FULL + place % 3,
+        Family::AtTheLimit if place < LIMIT_LENGTHS => LIMIT_FROM + place,
+        Family::AtTheLimit => RANDOM_LIMIT_FROM + RANDOM_LIMIT_STEP * (place % LIMIT_LENGTHS),
         Family::TooLong => random.one_of(&[LONGEST + 1, LONGEST + 2, 70_000, 131_072, 200_000]),
         Family::ManyNodes | Family::ManyNodesOneSize => {
             random.by_size(3_000, LONGEST as u64) as usize
         }
-        Family::ManyShingles => random.between(19_000, 21_000) as usize,
+        Family::ManyShingles => random.between(20_000, 21_500) as usize,
         Family::Middle => any_length(&settings, 600, 5_000, random),
         Family::Long if place % 13 == 0 => LONGEST,
         Family::Long => any_length(&settings, 5_000, LONGEST, random),
@@ -199,10 +202,11 @@ fn family_case(family: Family, place: usize, seed: u64, number: usize) -> Case {
         }
     };
     let content = match family {
-        Family::Full => [Content::Zeros, Content::AllEqual][place % 2],
-        Family::AtTheLimit if place < LIMIT_LENGTHS => Content::Zeros,
+        Family::Full => Content::Ruler,
+        Family::AtTheLimit if place < LIMIT_LENGTHS => Content::Ruler,
+        Family::AtTheLimit => Content::Random,
         Family::ManyNodes | Family::ManyNodesOneSize => {
-            random.one_of(&[Content::Zeros, Content::AllEqual, Content::Edited])
+            random.one_of(&[Content::Random, Content::Ruler, Content::Edited])
         }
         Family::ManyShingles => Content::Random,
         Family::Middle | Family::Long => KINDS[place % KINDS.len()],
@@ -233,7 +237,7 @@ fn family_case(family: Family, place: usize, seed: u64, number: usize) -> Case {
     }
 }
 
-/// The settings with which random strings of 19,000 to 21,000 bytes have about 4,096 nodes.
+/// The settings with which random strings of 20,000 to 21,500 bytes have about 4,096 nodes.
 fn many_shingles() -> Settings {
     Settings {
         window: 8,

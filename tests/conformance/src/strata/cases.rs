@@ -11,7 +11,7 @@ use crate::openings::forged::{Forgery, Oddity, FORGERIES, ODDITIES};
 use crate::openings::lists::{edited, table};
 use crate::random::{family_of, together, Random};
 use crate::replies::setup::Sender;
-use crate::settings::{any_length, most_nodes, with_nominal};
+use crate::settings::{any_length, with_nominal};
 use reference::lent::Lent;
 use reference::opening::MOST_SHINGLES;
 use reference::questions;
@@ -20,6 +20,7 @@ use reference::shingle::shingles;
 use reference::shingle_table;
 use reference::strata::{build, write, STRATA, TABLE_BYTES};
 use reference::tree::tree;
+use reference::vectors::{ruler, FULL_RULER, RULED};
 use std::fmt;
 
 /// One call.
@@ -316,14 +317,14 @@ fn of_strings(place: usize, random: &mut Random) -> End {
     )
 }
 
-/// Equal bytes that have 4,096 nodes, few of them different, or any bytes that have as many.
+/// A ruler that has 4,096 nodes, few of them different, or any bytes that have about as many.
 fn of_many_nodes(place: usize, random: &mut Random) -> End {
     let string = match place % 2 {
-        0 => vec![random.number() as u8; 4_527],
-        _ => random.bytes(4_000),
+        0 => ruler(FULL_RULER),
+        _ => random.bytes(10_200),
     };
     set_up(
-        Sender::new(most_nodes(), random.between(1, 64), string, random),
+        Sender::new(RULED, random.between(1, 64), string, random),
         random,
     )
 }

@@ -1,13 +1,14 @@
 //! The cases: settings, string and table size, each made from the seed and the case's number alone.
 
+use super::runs::{self, LONGEST_DISTANCE, RUNS};
 use crate::content::{self, Content, KINDS};
 use crate::failure::first_bytes;
 use crate::random::{family_of, together, Random};
 use crate::settings::{
-    any_allowed, any_length, edge_nominals, edge_settings, many_nodes, most_nodes, with_nominal,
-    NOMINALS,
+    any_allowed, any_length, edge_nominals, edge_settings, many_nodes, with_nominal, NOMINALS,
 };
 use reference::settings::Settings;
+use reference::vectors::{FULL_RULER, RULED};
 use std::fmt;
 
 /// One call.
@@ -47,20 +48,23 @@ const TABLE: usize = 65_536;
 /// The longest string that question 6 allows.
 const LONGEST: usize = 65_536;
 
-/// With w=2 p=8 L=4 M=4,096 a string of 4,527 equal bytes has 4,096 nodes. The first of the lengths
-/// around it, and how many they are.
-const FULL: usize = 4_527;
-const LIMIT_FROM: usize = 4_500;
+/// A ruler of this length has 4,096 nodes, and so have those of one and two bytes more. The first of the lengths around it,
+/// those around which random strings have as many, and how many lengths there are of each.
+const FULL: usize = FULL_RULER;
+const LIMIT_FROM: usize = FULL_RULER - 29;
+const RANDOM_LIMIT_FROM: usize = 10_200;
+const RANDOM_LIMIT_STEP: usize = 8;
 const LIMIT_LENGTHS: usize = 60;
 
 /// The families of cases, and how many cases each has.
-const FAMILIES: [(Family, usize); 10] = [
+const FAMILIES: [(Family, usize); 11] = [
     (Family::Full, 40),
     (Family::AtTheLimit, 4 * LIMIT_LENGTHS),
     (Family::EdgeSettings, 8 * 8 * 8 * NOMINALS),
     (Family::EdgeNominals, 3 * 7 * 4 * NOMINALS),
     (Family::TableSizes, 1_500),
     (Family::AllSettings, 11 * 7 * 4 * 45),
+    (Family::Runs, 11 * LONGEST_DISTANCE * RUNS),
     (Family::ManyNodes, 100),
     (Family::TooLong, 100),
     (Family::Middle, 1_500),
@@ -69,9 +73,9 @@ const FAMILIES: [(Family, usize); 10] = [
 
 #[derive(Clone, Copy)]
 enum Family {
-    /// Equal bytes that have exactly 4,096 nodes.
+    /// Rulers that have exactly 4,096 nodes.
     Full,
-    /// Strings that have about 4,096 nodes.
+    /// Rulers and random strings that have about 4,096 nodes.
     AtTheLimit,
     /// Every combination of settings at or past the ends of what is allowed.
     EdgeSettings,
@@ -81,7 +85,9 @@ enum Family {
     TableSizes,
     /// Every w, p and L that is allowed, with M from p^L to 65,536, over short strings.
     AllSettings,
-    /// Long strings of equal bytes with large p and L, which question 8 may refuse.
+    /// A run of equal bytes at the start, at the end, in the middle of others or alone, from none to a few h and w long.
+    Runs,
+    /// Long strings of many blocks with large p and L, which question 8 may refuse.
     ManyNodes,
     /// Strings of more than 65,536 bytes.
     TooLong,
@@ -105,36 +111,8 @@ pub fn case(seed: u64, number: usize) -> Case {
 fn family_case(family: Family, place: usize, seed: u64, number: usize) -> Case {
     let mut random = Random::of_case(seed, number);
     let random = &mut random;
-    let settings = match family {
-        Family::Full | Family::AtTheLimit => most_nodes(),
-        Family::EdgeSettings => edge_settings(place),
-        Family::EdgeNominals => edge_nominals(place, random),
-        Family::AllSettings => {
-            let (w, p, levels) = (place % 11, place / 11 % 7, place / 77 % 4);
-            with_nominal(2 + w as u64, 2 + p as u64, 1 + levels as u64, random)
-        }
-        Family::ManyNodes => many_nodes(random),
-        Family::TableSizes | Family::TooLong | Family::Middle | Family::Long => any_allowed(random),
-    };
-    let length = match family {
-        Family::Full => FULL,
-        Family::AtTheLimit => LIMIT_FROM + place % LIMIT_LENGTHS,
-        Family::TooLong => random.one_of(&[LONGEST + 1, LONGEST + 2, 70_000, 131_072, 200_000]),
-        Family::ManyNodes => random.by_size(3_000, LONGEST as u64) as usize,
-        Family::Middle => any_length(&settings, 600, 5_000, random),
-        Family::Long if place % 13 == 0 => LONGEST,
-        Family::Long => any_length(&settings, 5_000, LONGEST, random),
-        Family::EdgeSettings => random.one_of(&[0, 5, 100, LONGEST + 1]),
-        Family::EdgeNominals => random.between(0, 600) as usize,
-        Family::TableSizes | Family::AllSettings => any_length(&settings, 0, 1_200, random),
-    };
-    let content = match family {
-        Family::Full => [Content::Zeros, Content::AllEqual][place % 2],
-        Family::AtTheLimit if place < LIMIT_LENGTHS => Content::Zeros,
-        Family::ManyNodes => random.one_of(&[Content::Zeros, Content::AllEqual, Content::Edited]),
-        Family::Middle | Family::Long => KINDS[place % KINDS.len()],
-        _ => random.one_of(&KINDS),
-    };
+    let settings = settings(family, place, random);
+    let (content, string) = content_and_string(family, place, &settings, random);
     let table_length = match family {
         Family::EdgeSettings | Family::TableSizes | Family::TooLong => any_table(random),
         _ => random.one_of(&[TABLE, TABLE, TABLE, TABLE + 1, TABLE + 16, TABLE + 40]),
@@ -144,10 +122,62 @@ fn family_case(family: Family, place: usize, seed: u64, number: usize) -> Case {
         number,
         settings,
         content,
-        string: content::string(content, length, random),
+        string,
         table_length,
         string_shift: random.between(0, 15) as usize,
         table_shift: random.between(0, 15) as usize,
+    }
+}
+
+fn settings(family: Family, place: usize, random: &mut Random) -> Settings {
+    match family {
+        Family::Full | Family::AtTheLimit => RULED,
+        Family::EdgeSettings => edge_settings(place),
+        Family::EdgeNominals => edge_nominals(place, random),
+        Family::AllSettings => {
+            let (w, p, levels) = (place % 11, place / 11 % 7, place / 77 % 4);
+            with_nominal(2 + w as u64, 2 + p as u64, 1 + levels as u64, random)
+        }
+        Family::ManyNodes => many_nodes(random),
+        Family::Runs => runs::settings(place, random),
+        Family::TableSizes | Family::TooLong | Family::Middle | Family::Long => any_allowed(random),
+    }
+}
+
+/// What the string holds, and the string.
+fn content_and_string(
+    family: Family,
+    place: usize,
+    settings: &Settings,
+    random: &mut Random,
+) -> (Content, Vec<u8>) {
+    let content = content(family, place, random);
+    let length = match family {
+        Family::Runs => return (content, runs::string(settings, place, random)),
+        Family::Full => FULL + place % 3,
+        Family::AtTheLimit if place < LIMIT_LENGTHS => LIMIT_FROM + place,
+        Family::AtTheLimit => RANDOM_LIMIT_FROM + RANDOM_LIMIT_STEP * (place % LIMIT_LENGTHS),
+        Family::TooLong => random.one_of(&[LONGEST + 1, LONGEST + 2, 70_000, 131_072, 200_000]),
+        Family::ManyNodes => random.by_size(3_000, LONGEST as u64) as usize,
+        Family::Middle => any_length(settings, 600, 5_000, random),
+        Family::Long if place % 13 == 0 => LONGEST,
+        Family::Long => any_length(settings, 5_000, LONGEST, random),
+        Family::EdgeSettings => random.one_of(&[0, 5, 100, LONGEST + 1]),
+        Family::EdgeNominals => random.between(0, 600) as usize,
+        Family::TableSizes | Family::AllSettings => any_length(settings, 0, 1_200, random),
+    };
+    (content, content::string(content, length, random))
+}
+
+fn content(family: Family, place: usize, random: &mut Random) -> Content {
+    match family {
+        Family::Runs => Content::Runs,
+        Family::Full => Content::Ruler,
+        Family::AtTheLimit if place < LIMIT_LENGTHS => Content::Ruler,
+        Family::AtTheLimit => Content::Random,
+        Family::ManyNodes => random.one_of(&[Content::Random, Content::Ruler, Content::Edited]),
+        Family::Middle | Family::Long => KINDS[place % KINDS.len()],
+        _ => random.one_of(&KINDS),
     }
 }
 

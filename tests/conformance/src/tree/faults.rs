@@ -1,6 +1,6 @@
-//! The comparison tested: one function that is right, one whose windows slide and which is right too, and
-//! many that are wrong in one place each. Every wrong one must be found, and the right ones must pass an
-//! eighth of the cases.
+//! The comparison tested: one function that is right, some that are right too, with windows that slide or with other
+//! distances between cuts than h, which rejects no candidate, and many that are wrong in one place each. Every wrong one
+//! must be found, and the right ones must pass an eighth of the cases.
 
 use super::cases::count;
 use super::compare::Tree;
@@ -10,12 +10,13 @@ use crate::lent::{part, part_mut};
 use reference::fnv::{block_id, fnv1a};
 
 const NONE: u8 = 0;
-const SMALLER_THAN_BEFORE: u8 = 1;
-const SMALLER_THAN_AFTER: u8 = 2;
+/// "not greater than any value at distance 1 to h on either side"
+const RULE_1: u8 = 1;
+const SMALLER_ON_BOTH_SIDES: u8 = 2;
 const NEARER_NEIGHBOURS: u8 = 3;
 const WINDOW_ENDS_EARLY: u8 = 4;
 const ONE_CUT_MORE: u8 = 5;
-const CUTS_NEARER: u8 = 6;
+const CUTS_2_FARTHER: u8 = 6;
 const CHILDREN_FIRST: u8 = 7;
 const LEVEL_FROM_1: u8 = 8;
 const ID_0_LEFT: u8 = 9;
@@ -57,6 +58,26 @@ const PLACE_FROM_1: u8 = 44;
 const PLACE_FROM_THE_RIGHT: u8 = 45;
 const PLACE_WITHOUT_ITS_HIGHEST_BIT: u8 = 46;
 const PARENT_AND_PLACE_LEFT_OUT: u8 = 47;
+const SIDES_EXCHANGED: u8 = 48;
+const NOTHING_BEFORE: u8 = 49;
+const NOTHING_AFTER: u8 = 50;
+const EQUAL_H_BEFORE_TAKEN: u8 = 51;
+const EQUAL_BESIDE_TAKEN: u8 = 52;
+const EQUAL_BESIDE_ALONE_BARS: u8 = 53;
+const EQUAL_H_AFTER_BARS: u8 = 54;
+const NEARER_BEFORE: u8 = 55;
+const FARTHER_BEFORE: u8 = 56;
+const RULE_1_WITHOUT_SPACING: u8 = 57;
+const RULE_1_AT_THE_TOP: u8 = 58;
+const RULE_1_BELOW: u8 = 59;
+const RULE_1_OF_ZEROS: u8 = 60;
+const ONE_CUT_FEWER: u8 = 61;
+const FIRST_CUT_ALONE_BY_RULE_2: u8 = 62;
+
+// Right: cuts at least so far apart, which no candidate is too near for. Windows slide here too.
+const NO_SPACING: u8 = 100;
+const CUTS_NEARER: u8 = 101;
+const CUTS_FARTHER: u8 = 102;
 
 /// The parent that a node is listed under: its place in the table and its start; and of the node its
 /// place there.
@@ -119,29 +140,83 @@ impl Cutting<'_> {
         (0..length).map(|i| self.value(bytes, i, s)).collect()
     }
 
-    /// Whether the value at i is least, as far as there are values. Since the last cut the next may come from `start` on.
-    fn is_candidate(&self, values: &[u64], i: usize, h: usize, start: usize) -> bool {
-        let near = if self.has(NEARER_NEIGHBOURS) {
-            h - 1
-        } else {
-            h
-        };
+    /// How many values before a place are looked at, and how many after it.
+    fn near(&self, h: usize) -> [usize; 2] {
+        match self.fault {
+            NEARER_NEIGHBOURS => [h - 1; 2],
+            NEARER_BEFORE => [h - 1, h],
+            FARTHER_BEFORE => [h + 1, h],
+            NOTHING_BEFORE => [0, h],
+            NOTHING_AFTER => [h, 0],
+            _ => [h; 2],
+        }
+    }
+
+    /// Whether an equal value at this distance before a place bars a candidate, of a block at this level.
+    fn equal_before_bars(&self, distance: usize, h: usize, level: u64, first: bool) -> bool {
+        match self.fault {
+            RULE_1 | RULE_1_WITHOUT_SPACING | SIDES_EXCHANGED => false,
+            RULE_1_AT_THE_TOP => level > 1,
+            RULE_1_BELOW => level == 1,
+            RULE_1_OF_ZEROS => self.string.iter().any(|&byte| byte != 0),
+            FIRST_CUT_ALONE_BY_RULE_2 => first,
+            EQUAL_H_BEFORE_TAKEN => distance != h,
+            EQUAL_BESIDE_TAKEN => distance != 1,
+            EQUAL_BESIDE_ALONE_BARS => distance == 1,
+            _ => true,
+        }
+    }
+
+    /// The same of one after it.
+    fn equal_after_bars(&self, distance: usize, h: usize) -> bool {
+        match self.fault {
+            SMALLER_ON_BOTH_SIDES | SIDES_EXCHANGED => true,
+            EQUAL_H_AFTER_BARS => distance == h,
+            _ => false,
+        }
+    }
+
+    /// Whether the value at i is smaller than those before it and not greater than those after it, as far as there are
+    /// values. Since the last cut, if there is one, the next may come from `start` on.
+    fn is_candidate(
+        &self,
+        values: &[u64],
+        i: usize,
+        h: usize,
+        level: u64,
+        start: Option<usize>,
+    ) -> bool {
         let own = values[i];
         if self.has(ONE_IS_LEAST) && own == 1 {
             return true;
         }
-        let first = if self.has(NOTHING_BEFORE_THE_START) {
-            start.max(i - near)
-        } else {
-            i - near
+        let [before, after] = self.near(h);
+        let least = match self.has(NOTHING_BEFORE_THE_START) {
+            true => start.unwrap_or(h).max(i.saturating_sub(before)),
+            false => i.saturating_sub(before),
         };
-        let after = &values[i + 1..(i + near + 1).min(values.len())];
-        values[first..i]
-            .iter()
-            .all(|&v| own < v || own == v && !self.has(SMALLER_THAN_BEFORE))
-            && after
-                .iter()
-                .all(|&v| own < v || own == v && !self.has(SMALLER_THAN_AFTER))
+        let last = (i + after).min(values.len() - 1);
+        let first = start.is_none();
+        let bars_before = |k: usize| {
+            let equal = values[k] == own && self.equal_before_bars(i - k, h, level, first);
+            values[k] < own || equal
+        };
+        let bars_after = |k: usize| {
+            let equal = values[k] == own && self.equal_after_bars(k - i, h);
+            values[k] < own || equal
+        };
+        !(least..i).any(bars_before) && !(i + 1..=last).any(bars_after)
+    }
+
+    /// How far the next cut is from the last one at least.
+    fn spacing(&self, h: usize) -> usize {
+        match self.fault {
+            RULE_1_WITHOUT_SPACING | NO_SPACING => 1,
+            CUTS_NEARER => h - 1,
+            CUTS_FARTHER => h + 1,
+            CUTS_2_FARTHER => h + 2,
+            _ => h,
+        }
     }
 
     fn cuts(&self, start: usize, length: usize, level: u64) -> Vec<usize> {
@@ -161,15 +236,20 @@ impl Cutting<'_> {
         if self.has(FULL_STRETCHES_ONLY) {
             end = end / h * h;
         }
-        let spacing = if self.has(CUTS_NEARER) { h - 1 } else { h };
-        let most = if self.has(ONE_CUT_MORE) { 32 } else { 31 };
+        let most = match self.fault {
+            ONE_CUT_MORE => 32,
+            ONE_CUT_FEWER => 30,
+            _ => 31,
+        };
         let mut cuts: Vec<usize> = Vec::new();
         for i in h..end {
             if cuts.len() == most {
                 break;
             }
-            let start = cuts.last().map_or(h, |last| last + spacing);
-            if i >= start && self.is_candidate(values, i, h, start) {
+            let start = cuts.last().map(|last| last + self.spacing(h));
+            if start.map_or(true, |start| i >= start)
+                && self.is_candidate(values, i, h, level, start)
+            {
                 cuts.push(i);
             }
         }
@@ -383,6 +463,17 @@ fn the_right_function_passes() {
     }
 }
 
+/// "The spacing test no longer rejects any candidate" (document 02, request 7).
+#[test]
+fn the_right_function_passes_with_any_spacing() {
+    for (name, function) in functions! { NO_SPACING CUTS_NEARER CUTS_FARTHER } {
+        match run(SEED, count() / 8, function) {
+            Ok(report) => report.assert_complete(),
+            Err(failure) => panic!("{name}: {failure}"),
+        }
+    }
+}
+
 #[test]
 fn the_right_function_passes_with_windows_that_slide() {
     match run(SEED, count() / 8, faulty::<SLIDING>) {
@@ -394,8 +485,11 @@ fn the_right_function_passes_with_windows_that_slide() {
 #[test]
 fn every_fault_is_found() {
     let functions = functions! {
-        SMALLER_THAN_BEFORE SMALLER_THAN_AFTER NEARER_NEIGHBOURS WINDOW_ENDS_EARLY ONE_CUT_MORE
-        CUTS_NEARER CHILDREN_FIRST LEVEL_FROM_1 ID_0_LEFT NOT_CLEARED NOT_ZEROED_AT_8
+        RULE_1 SMALLER_ON_BOTH_SIDES SIDES_EXCHANGED NOTHING_BEFORE NOTHING_AFTER EQUAL_H_BEFORE_TAKEN
+        EQUAL_BESIDE_TAKEN EQUAL_BESIDE_ALONE_BARS EQUAL_H_AFTER_BARS NEARER_BEFORE FARTHER_BEFORE
+        RULE_1_WITHOUT_SPACING RULE_1_AT_THE_TOP RULE_1_BELOW RULE_1_OF_ZEROS FIRST_CUT_ALONE_BY_RULE_2
+        ONE_CUT_FEWER CUTS_2_FARTHER NEARER_NEIGHBOURS WINDOW_ENDS_EARLY ONE_CUT_MORE CHILDREN_FIRST LEVEL_FROM_1
+        ID_0_LEFT NOT_CLEARED NOT_ZEROED_AT_8
         LEVELS_AFTER_NOMINAL DISTANCE_ROUNDED_UP NEXT_LEVELS_MODULUS LAST_BYTE_HIGHEST BASE_256
         NOT_MODULO_65521 WINDOWS_PAST_THE_CHILD START_IN_THE_PARENT ONE_NODE_MORE ONE_NODE_FEWER
         TABLE_ONE_SHORTER STRING_ONE_LONGER STRING_ONE_SHORTER PAST_THE_TABLE BEFORE_THE_TABLE

@@ -3,6 +3,7 @@
 mod cases;
 mod compare;
 mod report;
+mod runs;
 
 #[cfg(test)]
 mod faults;

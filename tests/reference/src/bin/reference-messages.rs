@@ -13,6 +13,7 @@
 use reference::fnv::fnv1a;
 use reference::listing::{line, read_line};
 use reference::message::{encode, Body, Message, Opening};
+use reference::reply::RULE;
 use reference::word::Reference;
 
 const ID: u64 = 0x0123_4567_89ab_cdef;
@@ -115,7 +116,7 @@ fn opening(width: u32) -> Body {
         .chunks(5)
         .map(|cell| cell.try_into().expect("a cell has 5 rows"));
     Body::Opening(Opening {
-        rule: 1,
+        rule: RULE,
         window: 12,
         fan_out: 8,
         levels: 4,

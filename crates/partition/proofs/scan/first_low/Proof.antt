@@ -1,7 +1,8 @@
--- `first_low` meets its contract. The invariant: the value at `at` falls below all before it, and x is the running value at j.
+-- `first_low` meets its contract. The invariant: the value at `at` falls below all before it, and x is the running value at j. Both begin at at₀, the
+-- start.
 use borrow.Author.Needs.{needs}
 use mathlib.Core.Path.{_≡_}
-use Prim.Native.Nat.{_+_, _-_, _≤_, _<_}
+use Prim.Native.Nat.{_+_, _-_, _<_}
 use native.Mathlib.Omega.{arith}
 use Rattle.partition.specs.Cuts.{valueAt}
 use Rattle.partition.proofs.Running.{Runs, runs-first, runs-small, runs-on, runs-value}
@@ -10,28 +11,22 @@ use Rattle.partition.proofs.scan.first_low.Statement.{statement}
 use Rattle.partition.proofs.scan.first_low.Tie as tie
 
 abbrev Inv-loop : tie.InvT-loop
-Inv-loop bytes window h from end x₀ value₀ at₀ j₀ x value at j =
-    Falling (valueAt (window .width) (window .modulus) bytes) h from at j
+Inv-loop bytes window h end x₀ value₀ at₀ j₀ x value at j =
+    Falling (valueAt (window .width) (window .modulus) bytes) h at₀ at j
     × (at < end)
-    × Runs (window .width) bytes from j x
+    × Runs (window .width) bytes at₀ j x
     × (value ≡ valueAt (window .width) (window .modulus) bytes at)
 
 abbrev μ-loop : tie.MeasureT-loop
-μ-loop bytes window h from end x₀ value₀ at₀ j₀ x value at j = end + h - j
-
-add-number : tie.Need-add-number Inv-loop μ-loop
-add-number c = search needs
-
-number-requires : tie.Need-number-requires Inv-loop μ-loop
-number-requires c κs = search needs
+μ-loop bytes window h end x₀ value₀ at₀ j₀ x value at j = end + h - j
 
 rem-value : tie.Need-rem-value Inv-loop μ-loop
 rem-value c = search needs
 
 loop-holds : tie.Need-loop-holds Inv-loop μ-loop
 loop-holds c =
-    let a = c .before .before .before .before .args in
-    let runs = runs-first (c .before .number .ensures) in
+    let a = c .before .before .args in
+    let runs = runs-first (c .before .before .pre .1 .0 .here) in
     (falling-start _ _ _, omega arith, runs, runs-value runs (a .window .modulus) (omega arith))
 
 add-loop : tie.Need-add-loop Inv-loop μ-loop
@@ -51,7 +46,7 @@ add-j c = search needs
 
 returns-2 : tie.Need-returns-2 Inv-loop μ-loop
 returns-2 c =
-    let a = c .before .before .before .before .before .before .before .before .before .before .before .args in
+    let a = c .before .before .before .before .before .before .before .before .before .args in
     let s = c .before .before .before .before .before .before .loop in
     let runs = runs-on (s .inv .2) (c .before .before .before .next .ensures) in
     let e = runs-value runs (a .window .modulus) (omega arith) in
@@ -62,7 +57,7 @@ loop-less c = search needs
 
 loop-again : tie.Need-loop-again Inv-loop μ-loop
 loop-again c =
-    let a = c .before .before .before .before .before .before .before .before .before .before .before .args in
+    let a = c .before .before .before .before .before .before .before .before .before .args in
     let s = c .before .before .before .before .before .before .loop in
     let runs = runs-on (s .inv .2) (c .before .before .before .next .ensures) in
     let e = runs-value runs (a .window .modulus) (omega arith) in
@@ -73,7 +68,7 @@ loop-less-2 c = search needs
 
 loop-again-2 : tie.Need-loop-again-2 Inv-loop μ-loop
 loop-again-2 c =
-    let a = c .before .before .before .before .before .before .before .before .before .before .args in
+    let a = c .before .before .before .before .before .before .before .before .args in
     let s = c .before .before .before .before .before .loop in
     let runs = runs-on (s .inv .2) (c .before .before .next .ensures) in
     let e = runs-value runs (a .window .modulus) (omega arith) in
@@ -88,8 +83,6 @@ first-low-spec =
     (tie.spec
     Inv-loop
     μ-loop
-    add-number
-    number-requires
     rem-value
     loop-holds
     add-loop

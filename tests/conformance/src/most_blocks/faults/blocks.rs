@@ -2,8 +2,8 @@
 
 use super::*;
 
-/// The cuts of equal bytes: the first h from the start, each next one h further on, as long as h and a window come
-/// after it. 31 of them at most.
+/// Places for cuts h apart: the first h from the start, each next one h further on, as long as h and a window come after
+/// it. 31 of them at most.
 fn cuts(n: u64, w: u64, h: u64) -> u64 {
     let (mut cuts, mut place) = (0, h);
     while cuts < 31 && place + h + w <= n {
@@ -23,12 +23,18 @@ fn quotient(fault: u8, [n, w, h]: [i128; 3]) -> i128 {
         WINDOWS_COUNTED => (n - w + 1).div_euclid(h),
         ONE_WINDOW_FEWER => (n - w - 1).div_euclid(h),
         DISTANCE_AND_1 => (n - w).div_euclid(h + 1),
-        DISTANCE_LESS_1 => (n - w).div_euclid((h - 1).max(1)),
+        DISTANCE_LESS_BY_1 => (n - w).div_euclid((h - 1).max(1)),
         DISTANCE_TWICE => (n - w).div_euclid(2 * h),
         DISTANCE_IN_15_BITS => (n - w).div_euclid((h % 32_768).max(1)),
         LENGTH_IN_16_BITS => (n % 65_536 - w).div_euclid(h),
         DIFFERENCE_WRAPS => (n - w).rem_euclid(1 << 64).div_euclid(h),
         DIFFERENCE_WITHOUT_SIGN => (n - w).abs().div_euclid(h),
+        ROOM_BY_RULE_2 => (n - w + 2).div_euclid(h + 1),
+        CUTS_BY_RULE_2 => (n - w + 2).div_euclid(h + 1) - 1,
+        WHOLE_BLOCKS_AND_A_REST => (n + h - 1).div_euclid(h),
+        STEPS_OF_H_AND_W => n.div_euclid(h + w),
+        DISTANCES_OF_THE_STRING => (n - h).div_euclid(h),
+        ENDS_LEFT_OUT => (n - w - 2 * h).div_euclid(h),
         ONE_BLOCK_MORE => (n - w).div_euclid(h) + 1,
         CUTS_COUNTED => (n - w).div_euclid(h) - 1,
         _ => (n - w).div_euclid(h),
@@ -38,8 +44,12 @@ fn quotient(fault: u8, [n, w, h]: [i128; 3]) -> i128 {
 /// How many blocks there are at most. A function that takes an h of 0 divides by 1.
 fn bound(fault: u8, [n, w, h]: [u64; 3]) -> u64 {
     let h = h.max(1);
-    if fault == NONE {
-        return 1 + cuts(n, w, h);
+    match fault {
+        NONE => return 1 + cuts(n, w, h),
+        ZERO_FILE_COUNTED => return 1,
+        ZERO_FILE_COUNTED_FROM_32 if cuts(n, w, h) == 31 => return 1,
+        ALWAYS_32 => return 32,
+        _ => {}
     }
     let quotient = quotient(fault, [n, w, h].map(i128::from));
     let least = match fault {
@@ -69,23 +79,12 @@ fn looked_at(fault: u8, [n, w, h]: [u64; 3]) -> [u64; 3] {
     }
 }
 
-/// Whether the buffer is too short.
-fn is_short(fault: u8, n: u64, room: u64) -> bool {
-    match fault {
-        SHORT_BY_ONE_TAKEN => room + 1 < n,
-        SHORT_BUFFERS_TAKEN => false,
-        BUFFER_OF_N_REFUSED => room < n || room == n && n > 0,
-        NO_BUFFER_REFUSED => room < n || room == 0,
-        BUFFER_OF_65536_WANTED => room < n.max(65_536),
-        N_SIGNED => (room as i64) < n as i64,
-        _ => room < n,
-    }
-}
-
 /// Whether w, h or n is not allowed.
-fn is_refused(fault: u8, [n, w, h]: [u64; 3], room: u64) -> bool {
+fn is_refused(fault: u8, [n, w, h]: [u64; 3]) -> bool {
     let windows = match fault {
         WINDOW_1_TAKEN => 1..=12,
+        WINDOW_0_TAKEN if w == 0 => 0..=12,
+        WINDOW_SIGNED if w >> 63 == 1 => 2..=u64::MAX,
         WINDOW_13_TAKEN => 2..=13,
         WINDOW_2_REFUSED => 3..=12,
         WINDOW_12_REFUSED => 2..=11,
@@ -93,6 +92,9 @@ fn is_refused(fault: u8, [n, w, h]: [u64; 3], room: u64) -> bool {
     };
     let distances = match fault {
         DISTANCE_0_TAKEN => 0..=32_768,
+        ANY_DISTANCE_TAKEN => 1..=u64::MAX,
+        DISTANCE_SIGNED if h >> 63 == 1 => 1..=u64::MAX,
+        DISTANCE_65536_TAKEN => 1..=65_536,
         DISTANCE_32769_TAKEN => 1..=32_769,
         DISTANCE_1_REFUSED => 2..=32_768,
         DISTANCE_32768_REFUSED => 1..=32_767,
@@ -100,6 +102,8 @@ fn is_refused(fault: u8, [n, w, h]: [u64; 3], room: u64) -> bool {
     };
     let lengths = match fault {
         N_65537_TAKEN => 0..=65_537,
+        ANY_N_TAKEN => 0..=u64::MAX,
+        N_SIGNED if n >> 63 == 1 => 0..=u64::MAX,
         N_65536_REFUSED => 0..=65_535,
         N_0_REFUSED => 1..=65_536,
         N_BELOW_W_REFUSED => w..=65_536,
@@ -107,94 +111,53 @@ fn is_refused(fault: u8, [n, w, h]: [u64; 3], room: u64) -> bool {
         _ => 0..=65_536,
     };
     let other = match fault {
-        LONG_BUFFER_REFUSED => room > 65_536,
         H_BELOW_W_REFUSED => h < w,
+        ONE_BLOCK_REFUSED => cuts(n, w, h.max(1)) == 0,
+        MORE_THAN_32_REFUSED => n.saturating_sub(w) / h.max(1) > 32,
         _ => false,
     };
     other || !(windows.contains(&w) && distances.contains(&h) && lengths.contains(&n))
 }
 
-/// The question that has a no.
-fn refused(fault: u8, numbers: [u64; 3], room: u64) -> Option<u64> {
-    let [n, w, _] = numbers;
-    let by = match fault {
-        NUMBERS_SWAPPED => [24, 23],
-        WINDOW_BY_1 if !(2..=12).contains(&w) => [23, 1],
-        LENGTH_BY_6 if n > 65_536 => [23, 6],
-        BUFFER_BY_7 => [7, 24],
-        BUFFER_BY_20 => [20, 24],
-        _ => [23, 24],
-    };
-    let short = is_short(fault, n, room).then_some(by[0]);
-    let not_allowed = is_refused(fault, numbers, room).then_some(by[1]);
+/// The question that has a no. One that wants a buffer finds none, whatever there is beside n.
+fn refused(fault: u8, numbers: [u64; 3]) -> Option<u64> {
+    let [n, w, h] = numbers;
     match fault {
-        NUMBERS_FIRST => not_allowed.or(short),
-        LENGTH_FIRST if n > 65_536 => not_allowed.or(short),
-        _ => short.or(not_allowed),
-    }
-}
-
-/// Writes the file. A function that takes a buffer too short writes what fits.
-fn write(fault: u8, [n, w, h]: [u64; 3], blocks: u64, buffer: &mut [u8]) {
-    let room = buffer.len();
-    let n = (n.min(room as u64)) as usize;
-    let end = match fault {
-        ONE_BYTE_LESS => n.saturating_sub(1),
-        ONE_BYTE_MORE => n + 1,
-        WHOLE_WORDS => n / 8 * 8,
-        WORDS_IN_FULL => n.next_multiple_of(8),
-        NOTHING_WRITTEN => 0,
-        ONE_BLOCK_NOT_WRITTEN if blocks == 1 => 0,
-        WINDOWS_WRITTEN => n.saturating_sub(w as usize),
-        BLOCKS_WRITTEN => n.min((w + blocks * h) as usize),
-        ALL_CLEARED => room,
-        _ => n,
-    };
-    let start = match fault {
-        FIRST_BYTE_LEFT => 1.min(end),
-        LAST_BYTES_CLEARED => room - n,
-        _ => 0,
-    };
-    let byte = match fault {
-        ONES_WRITTEN => 1,
-        BYTES_255_WRITTEN => 255,
-        _ => 0,
-    };
-    let end = if fault == LAST_BYTES_CLEARED {
-        room
-    } else {
-        end
-    };
-    buffer[start..end.min(room)].fill(byte);
-    if fault == LAST_BYTE_1 && n > 0 {
-        buffer[n - 1] = 1;
-    }
-}
-
-/// What a refused call leaves.
-fn refuse(fault: u8, question: u64, n: u64, buffer: &mut [u8]) {
-    let written = n.min(buffer.len() as u64) as usize;
-    match (fault, question) {
-        (CLEARED_AT_23, 23) | (CLEARED_AT_24, 24) => buffer.fill(0),
-        (WRITTEN_AT_23, 23) | (WRITTEN_AT_24, 24) => buffer[..written].fill(0),
+        BUFFER_STILL_WANTED if n > 0 => return Some(23),
+        LONG_BUFFER_STILL_WANTED if n > 65_536 => return Some(23),
+        BUFFER_OF_2_32_WANTED if n >> 32 > 0 => return Some(23),
         _ => {}
     }
+    let by = match fault {
+        BY_23 => 23,
+        WINDOW_BY_23 if !(2..=12).contains(&w) => 23,
+        DISTANCE_BY_23 if !(1..=32_768).contains(&h) => 23,
+        WINDOW_BY_1 if !(2..=12).contains(&w) => 1,
+        DISTANCE_BY_4 if !(1..=32_768).contains(&h) => 4,
+        LENGTH_BY_6 if n > 65_536 => 6,
+        BY_25 => 25,
+        _ => 24,
+    };
+    is_refused(fault, numbers).then_some(by)
 }
 
 /// What the call answers.
-pub fn answer(fault: u8, numbers: [u64; 3], buffer: &mut [u8]) -> u64 {
+pub fn answer(fault: u8, numbers: [u64; 3]) -> u64 {
     let numbers = looked_at(fault, numbers);
-    if let Some(question) = refused(fault, numbers, buffer.len() as u64) {
-        refuse(fault, question, numbers[0], buffer);
-        return question;
+    if let Some(question) = refused(fault, numbers) {
+        return match fault {
+            REFUSED_FROM_2_32 => (1 << 32) + question,
+            REFUSED_WITH_0 => 0,
+            _ => question,
+        };
     }
     let blocks = bound(fault, numbers);
-    write(fault, numbers, blocks, buffer);
     match fault {
         COUNT_ALONE => blocks,
         COUNT_FROM_2_32 => blocks << 32,
         LENGTH_ANSWERED => (1 << 32) + numbers[0],
         ANSWER_WITH_BIT_33 => (3 << 32) + blocks,
+        ANSWER_0 => 0,
         _ => (1 << 32) + blocks,
     }
 }

@@ -20,16 +20,24 @@ struct Rule {
     fault: u8,
 }
 
-/// The fault of a cutting, of zeros or others, of the whole string or of a node below it.
-fn fault_of(fault: u8, zeros: bool, level: u64) -> u8 {
+/// The fault of a cutting, by what the string holds, and of the whole string or of a node below it.
+fn fault_of(fault: u8, string: &[u8], level: u64) -> u8 {
+    let equal = string.windows(2).all(|pair| pair[0] == pair[1]);
+    let zeros = equal && string.first() == Some(&0);
     match fault {
-        OTHERS_CUTS_32 if !zeros => CUTS_32,
-        OTHERS_CUTS_NEARER if !zeros => CUTS_NEARER,
-        OTHERS_WINDOW_ENDS_EARLY if !zeros => WINDOW_ENDS_EARLY,
-        OTHERS_FIRST_PLACE_ONE_LESS if !zeros => FIRST_PLACE_ONE_LESS,
-        BELOW_CUTS_NEARER if level > 1 => CUTS_NEARER,
+        ZEROS_RULE_1 if zeros => RULE_1,
+        EQUAL_BYTES_RULE_1 if equal && !zeros => RULE_1,
+        LONG_STRINGS_RULE_1 if string.len() > 1_000 => RULE_1,
+        OTHERS_CUTS_32 if !equal => CUTS_32,
+        OTHERS_WINDOW_ENDS_EARLY if !equal => WINDOW_ENDS_EARLY,
+        OTHERS_FIRST_PLACE_ONE_LESS if !equal => FIRST_PLACE_ONE_LESS,
+        OTHERS_LAST_PLACE_ONE_MORE if !equal => LAST_PLACE_ONE_MORE,
+        BELOW_RULE_1 if level > 1 => RULE_1,
+        BELOW_NOTHING_BEFORE if level > 1 => NOTHING_BEFORE,
         BELOW_WINDOW_ENDS_EARLY if level > 1 => WINDOW_ENDS_EARLY,
-        BELOW_SMALLER_THAN_BEFORE if level > 1 => SMALLER_THAN_BEFORE,
+        BELOW_CUTS_32 if level > 1 => CUTS_32,
+        BELOW_FIRST_PLACE_ONE_LESS if level > 1 => FIRST_PLACE_ONE_LESS,
+        BELOW_LAST_PLACE_ONE_MORE if level > 1 => LAST_PLACE_ONE_MORE,
         _ => fault,
     }
 }
@@ -44,15 +52,14 @@ impl Cutting<'_> {
         } = self.settings;
         let below = fan_out.pow(level as u32);
         let h = match self.fault {
-            DISTANCE_ROUNDED_UP => nominal.div_ceil(below),
-            DISTANCE_OF_THE_LEVEL_BEFORE => nominal / (below / fan_out),
+            DISTANCE_OF_THE_NEXT_LEVEL => (nominal / below / fan_out).max(1),
+            DISTANCE_LESS_1 => (nominal / below - 1).max(1),
             _ => nominal / below,
         };
-        let zeros = self.string.iter().all(|&byte| byte == 0);
         Rule {
             h: h as usize,
             s: window * fan_out.pow((levels - level + 1) as u32),
-            fault: fault_of(self.fault, zeros, level),
+            fault: fault_of(self.fault, self.string, level),
         }
     }
 
@@ -78,27 +85,22 @@ impl Cutting<'_> {
         let end = values.len() as i64 - h as i64;
         let (first, end) = match fault {
             FIRST_PLACE_ONE_LESS => (h - 1, end),
-            FIRST_PLACE_ONE_MORE => (h + 1, end),
-            LAST_PLACE_ONE_LESS => (h, end - 1),
             LAST_PLACE_ONE_MORE => (h, end + 1),
             _ => (h, end),
         };
         let spacing = match fault {
-            CUTS_NEARER => h - 1,
-            NO_SPACING => 1,
-            CUTS_FARTHER => h + 1,
+            RULE_1_WITHOUT_SPACING => 1,
             _ => h,
         };
         let most = match fault {
             CUTS_32 => 32,
-            CUTS_30 => 30,
             _ => 31,
         };
         let (mut cuts, mut next) = (Vec::new(), first);
         for i in first..end.max(0) as usize {
             if cuts.len() < most && i >= next && is_candidate(fault, &values, i, h) {
                 cuts.push(i);
-                next = i + spacing.max(1);
+                next = i + spacing;
             }
         }
         cuts
@@ -130,18 +132,34 @@ impl Cutting<'_> {
     }
 }
 
-/// Whether the value at i is least, as far as there are values, the nearest first.
+/// Whether an equal value at this distance before it does not bar a candidate.
+fn equal_taken(fault: u8, distance: usize, h: usize) -> bool {
+    match fault {
+        RULE_1 | RULE_1_WITHOUT_SPACING | NOTHING_BEFORE => true,
+        EQUAL_H_BEFORE_TAKEN => distance == h,
+        EQUAL_BESIDE_TAKEN => distance == 1,
+        _ => false,
+    }
+}
+
+/// Whether the value at i is smaller than those before it and not greater than those after it, as far as there are
+/// values, the nearest first.
 fn is_candidate(fault: u8, values: &[u64], i: usize, h: usize) -> bool {
     let own = values[i];
-    (1..=h).all(|distance| {
+    let near = match fault {
+        NEARER_NEIGHBOURS => h - 1,
+        _ => h,
+    };
+    let least = (1..=near).all(|distance| {
         let before = i.checked_sub(distance).map(|k| values[k]);
         let after = values.get(i + distance).copied();
-        let smaller_before =
-            before.is_some_and(|v| v < own || fault == SMALLER_THAN_BEFORE && v == own);
-        let smaller_after =
-            after.is_some_and(|v| v < own || fault == SMALLER_THAN_AFTER && v == own);
-        !smaller_before && !smaller_after
-    })
+        let equal = equal_taken(fault, distance, h);
+        let barred =
+            before.is_some_and(|v| v < own && fault != NOTHING_BEFORE || v == own && !equal);
+        !barred && !after.is_some_and(|v| v < own)
+    });
+    let around = &values[i.saturating_sub(h)..values.len().min(i + h + 1)];
+    least || fault == ALL_EQUAL_TAKEN && around.iter().all(|&v| v == own)
 }
 
 /// What the call answers.

@@ -185,9 +185,13 @@ fn refuse(
             return answer;
         }
     }
+    if let Some(answer) = other_rule(fault, body) {
+        return answer;
+    }
     let size = (before[SIZE] as usize).min(output.len());
     match fault {
         NEVER_ZEROES => {}
+        OTHER_RULE_NOT_ZEROED if question == 12 => {}
         ZEROES_WHAT_IS_ANNOUNCED => output[..size].fill(0),
         ZEROES_WHAT_IS_BUILT => output[..size.min(before[BUILT] as usize)].fill(0),
         NONE_ONLY_REFUSED if question == 16 => return 16,
@@ -204,6 +208,18 @@ fn refuse(
         write_rows(&ended(fault, before), state);
     }
     question
+}
+
+/// What an opening of another rule is answered that changes nothing; nothing where the answer is that of every other
+/// no at 12.
+fn other_rule(fault: u8, body: &Body) -> Option<u64> {
+    match (fault, body) {
+        (_, Body::Opening(opening)) if opening.rule == 2 => None,
+        (OTHER_RULE_BY_10, Body::Opening(_)) => Some(10),
+        (OTHER_RULE_BY_11, Body::Opening(_)) => Some(11),
+        (OTHER_RULE_NOT_ENDED, Body::Opening(_)) => Some(12),
+        _ => None,
+    }
 }
 
 /// What a composition is answered that has a number where it may not, or none where it must; nothing where the
@@ -305,6 +321,21 @@ fn opened(fault: u8, rows: &[u64], lent: &Lent, opening: &Opening) -> Option<Vec
     }
 }
 
+/// Whether an opening of this rule is taken.
+fn is_taken(fault: u8, rule: u32) -> bool {
+    match fault {
+        RULE_NOT_ASKED => true,
+        RULE_1_TAKEN => [1, 2].contains(&rule),
+        RULE_1_WANTED => rule == 1,
+        RULE_3_TAKEN => [2, 3].contains(&rule),
+        RULE_3_WANTED => rule == 3,
+        RULE_0_TAKEN => [0, 2].contains(&rule),
+        RULES_FROM_2_ON_TAKEN => rule >= 2,
+        RULE_LOW_BYTE => rule % 256 == 2,
+        _ => rule == 2,
+    }
+}
+
 fn open(
     fault: u8,
     before: &[u64],
@@ -328,8 +359,7 @@ fn open(
         (WIDTH_NOT_ASKED, 4) => true,
         _ => u64::from(theirs[k]) == before[k],
     };
-    let rule = opening.rule == 1 || fault == RULE_NOT_ASKED;
-    if !(rule && (0..5).all(same)) {
+    if !(is_taken(fault, opening.rule) && (0..5).all(same)) {
         return Err(12);
     }
     let length = u64::from(opening.length);

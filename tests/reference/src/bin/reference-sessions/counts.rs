@@ -52,10 +52,12 @@ pub enum Claim {
     DroppedGets17,
     /// The same of one that "carries one where only one does".
     AddedGets17,
+    /// "ends with rule 1 meet refusal 12", and so do those with any other number that is not 2.
+    OtherRuleGets12,
 }
 
 /// All claims.
-pub const CLAIMS: [Claim; 23] = [
+pub const CLAIMS: [Claim; 24] = [
     Claim::DeliveredIsAccepted,
     Claim::AtMost4097,
     Claim::BoundIsReached,
@@ -79,11 +81,12 @@ pub const CLAIMS: [Claim; 23] = [
     Claim::CarriedWhereOthers,
     Claim::DroppedGets17,
     Claim::AddedGets17,
+    Claim::OtherRuleGets12,
 ];
 
 /// Claims about what comes in every run, however few sessions it has: one of which no case was looked
 /// at says nothing.
-const ALWAYS: [Claim; 7] = [
+const ALWAYS: [Claim; 8] = [
     Claim::OneComposition,
     Claim::FallingGets10,
     Claim::GenuineAfterFalling,
@@ -91,6 +94,7 @@ const ALWAYS: [Claim; 7] = [
     Claim::CarriedWhereOthers,
     Claim::DroppedGets17,
     Claim::AddedGets17,
+    Claim::OtherRuleGets12,
 ];
 
 /// How often a claim was looked at, in how many cases it did not hold, and the first of them.

@@ -1,5 +1,6 @@
 //! Damaged and forged messages.
 
+use crate::forms::OTHER_RULES;
 use crate::random::Random;
 use reference::lent::Lent;
 use reference::message::{encode, parse, Body, Message, Opening};
@@ -40,7 +41,7 @@ pub fn opening(session: u32, own: &Opening, list: &[Shingle], random: &mut Rando
     let mut opening = own.clone();
     let ids: Vec<u64> = list.iter().map(|shingle| shingle.own).collect();
     match random.between(0, 9) {
-        0 => opening.rule = random.between(0, 3) as u32,
+        0 => opening.rule = random.one_of(&OTHER_RULES),
         1 => opening.levels += 1,
         2 => opening.nominal ^= 1,
         3 => opening.length = opening.length.wrapping_add(random.between(1, 3) as u32),

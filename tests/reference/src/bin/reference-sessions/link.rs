@@ -14,6 +14,7 @@ use reference::rcds::rcds_message_type;
 use reference::receiver::{set_up, Answer};
 use reference::settings::Settings;
 use reference::tree::Node;
+use reference::vectors::{ruler, FULL_RULER, RULED};
 use std::collections::BTreeSet;
 
 /// Both ends before their setups.
@@ -71,25 +72,21 @@ impl Ends {
     /// The case in which most replies are accepted: a tree of 4,096 nodes, of which the receiver has
     /// none.
     pub fn most_replies() -> Ends {
+        let sender = ruler(FULL_RULER);
         Ends {
-            settings: Settings {
-                window: 2,
-                fan_out: 8,
-                levels: 4,
-                nominal: 4_096,
-            },
+            settings: RULED,
             width: 64,
             number: 1,
-            sender: vec![0; 4_527],
+            output_bytes: sender.len(),
+            sender,
             own: vec![1, 2, 3],
-            output_bytes: 4_527,
             label: "most replies".to_string(),
         }
     }
 
-    /// A sender whose whole string is one of two trails: "With w=2, p=2, L=1, M=2" these seven bytes have
+    /// A sender whose whole string is one of two trails: "With w=2, p=2, L=1, M=2" these eleven bytes have
     /// the blocks a, a, b, a and one more, which a, b, a, a and it have too.
-    fn two_trails(string: [u8; 7]) -> Ends {
+    fn two_trails(string: [u8; 11]) -> Ends {
         Ends {
             settings: Settings {
                 window: 2,
@@ -334,7 +331,10 @@ pub fn most_replies(random: &mut Random, counts: &mut Counts) {
 }
 
 /// Strings of which one is the first and one the second of two trails.
-const TWO_TRAILS: [[u8; 7]; 2] = [[1, 1, 0, 1, 0, 1, 0], [3, 3, 1, 3, 1, 3, 0]];
+const TWO_TRAILS: [[u8; 11]; 2] = [
+    [1, 255, 1, 255, 0, 0, 1, 255, 0, 0, 0],
+    [1, 255, 1, 255, 1, 0, 1, 255, 0, 0, 0],
+];
 
 /// Sessions of both, to their ends.
 pub fn two_trails(random: &mut Random, counts: &mut Counts) {

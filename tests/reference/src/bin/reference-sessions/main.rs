@@ -2,10 +2,10 @@
 //!
 //!     reference-sessions SEED SESSIONS
 //!
-//! The first part takes genuine messages, and compositions whose references do not rise or which have a
-//! trail number where they may not; the second one also other forged and damaged messages, and lends
-//! altered memory. Prints what was counted, and fails where a claim was broken, or one of those that every
-//! run has never came up.
+//! The first part takes genuine messages, compositions whose references do not rise or which have a trail
+//! number where they may not, and openings of other rules; the second one also other forged and damaged
+//! messages, and lends altered memory. Prints what was counted, and fails where a claim was broken, or one of
+//! those that every run has never came up.
 
 mod alter;
 mod conditions;

@@ -27,6 +27,8 @@ pub enum Content {
     FewSymbols,
     Zeros,
     Samples,
+    /// Samples, and a run of zeros to the end: "Recorders now preallocate channel files".
+    Preallocated,
     Blocks,
 }
 
@@ -44,11 +46,12 @@ const PAIRS: [Pair; 11] = [
     Pair::SameBlocks,
 ];
 
-const CONTENTS: [Content; 5] = [
+const CONTENTS: [Content; 6] = [
     Content::Random,
     Content::FewSymbols,
     Content::Zeros,
     Content::Samples,
+    Content::Preallocated,
     Content::Blocks,
 ];
 
@@ -109,6 +112,12 @@ pub fn string(length: usize, random: &mut Random) -> Vec<u8> {
         Content::FewSymbols => few_symbols(length, random),
         Content::Zeros => vec![0; length],
         Content::Samples => samples(length, random),
+        Content::Preallocated => {
+            let recorded = random.between(0, length as u64) as usize;
+            let mut string = samples(recorded, random);
+            string.resize(length, 0);
+            string
+        }
         Content::Blocks => {
             let blocks = blocks(length, random);
             of_blocks(&blocks, length, random)

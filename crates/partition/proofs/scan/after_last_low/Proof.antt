@@ -1,18 +1,19 @@
--- `after_last_below` meets its contract. The invariant is its own record for the positions passed, and x is the running value at j.
+-- `after_last_low` meets its contract. The invariant is its own record for the positions passed, and x is the running value at j.
 use borrow.Author.Needs.{needs}
 use mathlib.Core.Path.{_≡_}
 use Prim.Native.Nat.{_-_, _≤_}
 use native.Mathlib.Omega.{arith}
 use Rattle.partition.specs.Cuts.{valueAt}
-use Rattle.partition.specs.Scans.{AfterLastBelow}
+use Rattle.partition.specs.Scans.{AfterLastLow}
+use Rattle.partition.proofs.Reading.{window-here}
 use Rattle.partition.proofs.Running.{Runs, runs-first, runs-small, runs-on, runs-value}
 use Rattle.partition.proofs.Steps.{last-none, last-here, last-not}
-use Rattle.partition.proofs.scan.after_last_below.Statement.{statement}
-use Rattle.partition.proofs.scan.after_last_below.Tie as tie
+use Rattle.partition.proofs.scan.after_last_low.Statement.{statement}
+use Rattle.partition.proofs.scan.after_last_low.Tie as tie
 
 abbrev Inv-loop : tie.InvT-loop
 Inv-loop bytes window m from to x₀ r₀ j₀ x r j =
-    AfterLastBelow (valueAt (window .width) (window .modulus) bytes) m from j r × (j ≤ to) × Runs (window .width) bytes from j x
+    AfterLastLow (valueAt (window .width) (window .modulus) bytes) m from j r × (j ≤ to) × Runs (window .width) bytes from j x
 
 abbrev μ-loop : tie.MeasureT-loop
 μ-loop bytes window m from to x₀ r₀ j₀ x r j = to - j
@@ -27,7 +28,7 @@ number-requires : tie.Need-number-requires Inv-loop μ-loop
 number-requires c κs = search needs
 
 loop-holds : tie.Need-loop-holds Inv-loop μ-loop
-loop-holds c = (last-none _ _ _ (omega arith), omega arith, runs-first (c .number .ensures))
+loop-holds c = (last-none _ _ _ (omega arith), omega arith, runs-first (window-here _ _ _ (c .number .ensures)))
 
 rem-value : tie.Need-rem-value Inv-loop μ-loop
 rem-value c = search needs
@@ -63,8 +64,8 @@ returns-2 c =
     let e : c .before .loop .j ≡ c .before .before .before .before .before .before .args .to = omega arith in
     rw e at (c .before .loop .inv .0)
 
-pub after-last-below-spec : {M : Type 1} → statement M
-after-last-below-spec =
+pub after-last-low-spec : {M : Type 1} → statement M
+after-last-low-spec =
     tie.close
     (tie.spec
     Inv-loop
