@@ -235,11 +235,11 @@ static inline const char *rcds_question_words(uint64_t answer)
  * nodes        the node table, nodes_len bytes. What it holds before the call
  *              does not matter.
  *
- * With h = nominal / p^l, rounded down, a cut of level l comes where the value of
- * a window is smaller than each of the h values before it and not greater than
- * the h after it. So inside a run of equal bytes there is none. Two trees can be
- * compared only if they were cut with the same w, p, levels and nominal, by the
- * same RCDS_RULE.
+ * With h = nominal / p^l, rounded down, a cut of level l comes only where the
+ * value of a window is smaller than each of the h values before it and not
+ * greater than the h after it. So inside a run of equal bytes there is none. Two
+ * trees can be compared only if they were cut with the same w, p, levels and
+ * nominal, by the same RCDS_RULE.
  *
  * Asks 1, 2, 3, 4, 6, 7, 8.
  *
