@@ -112,7 +112,7 @@ extern "C" {
  * The number of the rule by which strings are cut here, which an opening carries.
  * Ends that cut by another rule meet 12: both ends are changed together.
  */
-#define RCDS_RULE 2
+#define RCDS_RULE 3
 
 /* The largest h, the least distance between two cuts, that settings give. */
 #define RCDS_MAX_DISTANCE 32768

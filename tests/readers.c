@@ -99,7 +99,7 @@ static void expect_trails(void)
  * which is lent nothing. It is not made: the size of its answer is asked. */
 static void expect_rule(void)
 {
-    expect("rule", RCDS_RULE, 2);
+    expect("rule", RCDS_RULE, 3);
     expect("bytes of an answer", sizeof rcds_most_blocks(9, 2, 2), 8);
 }
 

@@ -2,9 +2,9 @@
 //!
 //!     bench [GROUP...]
 //!
-//! The groups are `tree`, `growth`, `windows`, `crossed`, `most_blocks`, `trails`, `setups`, `openings`, `strata` and
-//! `sessions`; none stands for all that are built in. A group is built in by the feature of its name (`growth` and
-//! `windows` by `tree`), and all are, unless cargo is told otherwise.
+//! The groups are `tree`, `growth`, `windows`, `samples`, `crossed`, `most_blocks`, `trails`, `setups`, `openings`, `strata`
+//! and `sessions`; none stands for all that are built in. A group is built in by the feature of its name (`growth`,
+//! `windows` and `samples` by `tree`), and all are, unless cargo is told otherwise.
 //!
 //! A cost is counted in plain FNV-1a passes, which are timed in turn with the calls. Nothing here
 //! fails because of a time; a wrong answer stops the run.
@@ -37,6 +37,8 @@ const GROUPS: &[(&str, fn())] = &[
     ("growth", tree::run_growth),
     #[cfg(feature = "tree")]
     ("windows", tree::run_windows),
+    #[cfg(feature = "tree")]
+    ("samples", tree::run_samples),
     #[cfg(feature = "crossed")]
     ("crossed", crossed::run),
     #[cfg(feature = "most_blocks")]

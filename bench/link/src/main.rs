@@ -6,6 +6,7 @@
 //!   installed.
 //! - `settings`: how many shingles a change makes differ, and what other settings cost.
 //! - `search`: which settings of a grid cost least; it takes some minutes.
+//! - `contents`: what sessions cost in the mean, content by content; where a run of zeros is cut off.
 //! - `blocks`: what settings make of a string.
 //! - `widths`: which sketch widths open how many differences.
 //! - `strata`: how rough the estimate of the strata is, which width to choose by it, and what a table of
@@ -16,6 +17,7 @@
 
 mod blocks;
 mod calls;
+mod contents;
 mod others;
 mod pairs;
 mod search;
@@ -26,10 +28,11 @@ mod strata;
 mod strings;
 mod widths;
 
-const GROUPS: [(&str, fn()); 7] = [
+const GROUPS: [(&str, fn()); 8] = [
     ("pairs", pairs::run),
     ("settings", settings::run),
     ("search", search::run),
+    ("contents", contents::run),
     ("blocks", blocks::run),
     ("widths", widths::run),
     ("strata", strata::run),

@@ -1,10 +1,10 @@
 //! A search for settings: of a grid, for each size, those of the least mean bytes of a session over all pairs of the
-//! group `settings`. It takes some minutes.
+//! group `settings`; and what these and the recommended ones cost on other pairs. It takes some minutes.
 
 use crate::calls::{sketch_open, Settings};
 use crate::pairs::SIZES;
-use crate::session::run as session;
-use crate::settings::{differences, pairs_of, Pair, TRIED};
+use crate::session::{run as session, Session};
+use crate::settings::{by_change, differences, recommended, Pair, SEEDS, TRIED};
 use crate::strings::CHANGES;
 use crate::widths::{cells, table};
 
@@ -19,8 +19,11 @@ const NOMINALS: [u64; 16] = [2, 3, 4, 5, 6, 7, 8, 10, 12, 14, 16, 20, 24, 32, 48
 /// The least distance of cuts at the last level.
 const LEAST_DISTANCE: u64 = 16;
 
-/// How many settings are printed for a size.
+/// How many settings are printed for a size, beside the recommended ones.
 const PRINTED: usize = 10;
+
+/// Seeds of the pairs on which the printed settings are tried again: those of the search favour what it found.
+const OTHER_SEEDS: std::ops::Range<u64> = 3_000..3_024;
 
 /// Mean bytes of a session; how many handed over of all, and of each change.
 struct Found {
@@ -97,40 +100,63 @@ fn best(numbers: [u64; 4], pairs: &[Vec<Pair>]) -> Option<Found> {
         .min_by_key(|found| found.bytes)
 }
 
+/// What settings cost on pairs.
+fn tried(settings: &Settings, pairs: &[Vec<Pair>]) -> Found {
+    let run = |(string, own): &Pair| session(settings, string, own);
+    let all: Vec<Vec<Session>> = pairs
+        .iter()
+        .map(|pairs| pairs.iter().map(run).collect())
+        .collect();
+    let number: usize = pairs.iter().map(Vec::len).sum();
+    let handed = |of: &Vec<Session>| of.iter().filter(|one| one.refused.is_none()).count();
+    Found {
+        settings: *settings,
+        bytes: all.iter().flatten().map(Session::bytes).sum::<usize>() / number,
+        handed: all.iter().map(handed).collect(),
+    }
+}
+
+/// Prints settings as a row of the table: on the pairs of the search, and on others.
+fn print_row(size: usize, found: &Found, again: &Found) {
+    let of_changes: Vec<String> = found.handed.iter().map(usize::to_string).collect();
+    println!(
+        "| {size} | {} | {} | {} | {} | {} | {} |",
+        found.settings,
+        found.bytes,
+        found.handed.iter().sum::<usize>(),
+        of_changes.join(" | "),
+        again.bytes,
+        again.handed.iter().sum::<usize>()
+    );
+}
+
+/// Searches and prints the rows of a size, the recommended settings last.
+fn print_rows(size: usize) {
+    let (pairs, others) = (by_change(size, SEEDS), by_change(size, OTHER_SEEDS));
+    let grid = grid(1_024 * size as u64);
+    let mut all: Vec<Found> = grid
+        .iter()
+        .filter_map(|numbers| best(*numbers, &pairs))
+        .collect();
+    all.sort_by_key(|found| found.bytes);
+    all.truncate(PRINTED);
+    all.push(tried(&recommended(size), &pairs));
+    for found in &all {
+        print_row(size, found, &tried(&found.settings, &others));
+    }
+}
+
 /// Searches and prints.
 pub fn run() {
     println!();
     println!("The settings of the least mean bytes of a session over 72 pairs, the whole string included where it was refused, each with its");
-    println!("best width; how many handed over, in all and of the 12 of each change.");
+    println!("best width; how many handed over, in all and of the 12 of each change; then the same on 576 other pairs. The recommended");
+    println!("settings stand last.");
     println!();
     println!(
-        "| KiB | w p L M q | bytes | handed over | {} |",
+        "| KiB | w p L M q | bytes | handed over | {} | other pairs: bytes | handed over |",
         CHANGES[TRIED].join(" | ")
     );
-    println!("|---:|---|---:|---:|{}", "---:|".repeat(TRIED.len()));
-    for size in SIZES {
-        let pairs: Vec<Vec<Pair>> = CHANGES[TRIED]
-            .iter()
-            .map(|change| pairs_of(size, change))
-            .collect();
-        let grid = grid(1_024 * size as u64);
-        let mut all: Vec<Found> = grid
-            .iter()
-            .filter_map(|numbers| best(*numbers, &pairs))
-            .collect();
-        all.sort_by_key(|found| found.bytes);
-        for Found {
-            settings,
-            bytes,
-            handed,
-        } in all.iter().take(PRINTED)
-        {
-            let of_changes: Vec<String> = handed.iter().map(usize::to_string).collect();
-            println!(
-                "| {size} | {settings} | {bytes} | {} | {} |",
-                handed.iter().sum::<usize>(),
-                of_changes.join(" | ")
-            );
-        }
-    }
+    println!("|---:|---|---:|---:|{}", "---:|".repeat(TRIED.len() + 2));
+    SIZES.into_iter().for_each(print_rows);
 }

@@ -6,6 +6,7 @@ use crate::pairs::{outcome, SIZES};
 use crate::session::{run as session, Session};
 use crate::strings::{pair, CHANGES, CONTENTS};
 use std::collections::HashSet;
+use std::ops::Range;
 
 /// w, p, L, M and q for strings of about so many KiB.
 pub fn recommended(size: usize) -> Settings {
@@ -34,18 +35,29 @@ const OTHERS: [[u64; 4]; 9] = [
 ];
 
 /// The changes that are tried: neither equal nor different strings.
-pub const TRIED: std::ops::Range<usize> = 1..7;
+pub const TRIED: Range<usize> = 1..7;
 
 /// Seeds of the pairs, others than those of the group `pairs`.
-const SEEDS: std::ops::Range<u64> = 100..103;
+pub const SEEDS: Range<u64> = 100..103;
 
 pub type Pair = (Vec<u8>, Vec<u8>);
 
 /// The pairs of a size and a change, of every content.
-pub fn pairs_of(size: usize, change: &str) -> Vec<Pair> {
-    CONTENTS
+fn pairs_of(size: usize, change: &str, seeds: Range<u64>) -> Vec<Pair> {
+    let of_content = |content: &&str| -> Vec<Pair> {
+        let seeds = seeds.clone();
+        seeds
+            .map(|seed| pair(content, change, size * 1_024, seed))
+            .collect()
+    };
+    CONTENTS.iter().flat_map(of_content).collect()
+}
+
+/// The pairs of a size, by the changes that are tried.
+pub fn by_change(size: usize, seeds: Range<u64>) -> Vec<Vec<Pair>> {
+    CHANGES[TRIED]
         .iter()
-        .flat_map(|content| SEEDS.map(move |seed| pair(content, change, size * 1_024, seed)))
+        .map(|change| pairs_of(size, change, seeds.clone()))
         .collect()
 }
 
@@ -85,7 +97,7 @@ fn print_differences() {
         let cells: Vec<String> = CHANGES[TRIED]
             .iter()
             .map(|change| {
-                let mut counts: Vec<usize> = pairs_of(size, change)
+                let mut counts: Vec<usize> = pairs_of(size, change, SEEDS)
                     .iter()
                     .filter_map(|pair| differences(&settings, pair))
                     .map(|[new, gone]| new.len() + gone.len())
@@ -130,10 +142,7 @@ pub fn run() {
     println!("| KiB | w p L M q | {} |", CHANGES[TRIED].join(" | "));
     println!("|---:|---|{}", "---:|".repeat(TRIED.len()));
     for size in SIZES {
-        let pairs: Vec<Vec<Pair>> = CHANGES[TRIED]
-            .iter()
-            .map(|change| pairs_of(size, change))
-            .collect();
+        let pairs = by_change(size, SEEDS);
         let [w, p, levels, nominal, width] = recommended(size).0;
         for width in WIDTHS {
             print_row(size, &Settings([w, p, levels, nominal, width]), &pairs);

@@ -92,7 +92,7 @@ pub fn content(name: &str, random: &mut Random, length: usize) -> Vec<u8> {
 }
 
 /// How many bytes at the front of a string a change may lie in: the filled ones.
-fn filled(name: &str, length: usize) -> usize {
+pub fn filled(name: &str, length: usize) -> usize {
     match name {
         "preallocated" => length / 4,
         _ => length,

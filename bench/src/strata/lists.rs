@@ -14,7 +14,7 @@ const RULER: (&str, u64) = ("ruler", 6);
 const RANDOM: (&str, u64) = ("random", 2);
 
 /// A string of 4,096 shingles.
-const FULL: List = ([8, 8, 4, 8_192], RANDOM, 21_011);
+const FULL: List = ([8, 8, 4, 8_192], RANDOM, 20_867);
 
 /// 4,096 nodes with few shingles; the settings that the guide recommends; strings of many shingles; and the
 /// one of 4,096.

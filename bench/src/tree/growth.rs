@@ -53,16 +53,19 @@ pub fn settings() -> Vec<Settings> {
     settings
 }
 
-/// How many figures are above a limit, and the largest.
-pub fn print_above(rows: &[Row], limit: f64) {
+/// How many times longer four times the bytes may take.
+const LIMIT: f64 = 5.0;
+
+/// How many figures are above the limit, and the largest.
+pub fn print_above(rows: &[Row]) {
     let of_row = |row: &Row| -> Vec<Figure> {
         (0..row.costs.len())
             .flat_map(|content| growth(row, content))
             .collect()
     };
     let figures: Vec<Figure> = rows.iter().flat_map(of_row).collect();
-    let above = figures.iter().filter(|figure| figure.0 > limit).count();
+    let above = figures.iter().filter(|figure| figure.0 > LIMIT).count();
     let all = figures.len();
     let (most, place) = worst(figures.into_iter());
-    println!("Four times the bytes cost more than {limit} times the time in {above} of {all} figures, at most {most:.2} times ({place}).");
+    println!("Four times the bytes cost more than {LIMIT} times the time in {above} of {all} figures, at most {most:.2} times ({place}).");
 }

@@ -8,6 +8,7 @@ use crate::cut::cut;
 use crate::pass::cost;
 use reference::partition::slide;
 use reference::settings::Settings;
+use reference::spread::entry;
 use reference::vectors::string;
 use std::hint::black_box;
 
@@ -23,8 +24,8 @@ fn by_turns(settings: &Settings, level: u64) -> Vec<u8> {
     let mut bytes = Vec::with_capacity(LENGTH);
     let mut value = 0;
     for (i, random) in string(2, LENGTH).into_iter().enumerate() {
-        let leaves = i.checked_sub(w).map_or(0, |first| bytes[first]);
-        let entered = |byte: u8| slide(w, value, leaves, byte);
+        let leaves = i.checked_sub(w).map_or(0, |first| entry(bytes[first]));
+        let entered = |byte: u8| slide(w, value, leaves, entry(byte));
         let wanted = (1 + i as u64 % 3) % modulus;
         let gives = |byte: &u8| entered(*byte) % modulus == wanted;
         let candidates = (0..=u8::MAX).map(|more| random.wrapping_add(more));

@@ -7,6 +7,7 @@ mod growth;
 mod hostile;
 mod measure;
 mod runs;
+mod samples;
 mod strings;
 mod table;
 mod windows;
@@ -29,12 +30,17 @@ pub fn run_growth() {
     let strings = strings::all();
     let rows: Vec<measure::Row> = growth::settings()
         .iter()
-        .map(|settings| measure::row(settings, &strings[..strings::SEVENS], false))
+        .map(|settings| measure::row(settings, &strings, false))
         .collect();
-    growth::print_above(&rows, 5.0);
+    growth::print_above(&rows);
 }
 
 /// Measures what a running value saves, and prints a table.
 pub fn run_windows() {
     windows::run();
+}
+
+/// Counts the cuts of twelve-bit samples by rules 2 and 3, and prints tables.
+pub fn run_samples() {
+    samples::run();
 }

@@ -1,12 +1,12 @@
 //! What runs of equal bytes cost beside random bytes, where both are searched to the end: a table in markdown, and the dearest in sentences.
 //!
 //! After 31 cuts a search ends. Random bytes are often cut so early, a run of equal bytes never; so strings are compared of which no
-//! random one has 31 cuts.
+//! random one has 31 cuts. All windows of a run have one value, which by rule 3 may be any; it stands beside.
 
 use super::growth::{name, worst, Figure};
 use crate::cut::cut;
 use crate::pass::{call_and_pass, cost};
-use reference::partition::MOST_CUTS;
+use reference::partition::{window_value, MOST_CUTS};
 use reference::rcds::ACCEPTED;
 use reference::settings::Settings;
 use reference::vectors::string;
@@ -17,6 +17,9 @@ const DISTANCES: [u64; 8] = [1, 2, 4, 8, 16, 64, 512, 4_096];
 
 /// The columns of the table. A preallocated file is a quarter of samples, then zeros.
 const CONTENTS: [&str; 4] = ["random", "zeros", "sevens", "preallocated"];
+
+/// The bytes of the two runs.
+const RUNS: [(&str, u8); 2] = [("zeros", 0), ("sevens", 7)];
 
 /// The bytes of all strings of a cell.
 const BYTES: usize = 65_536;
@@ -73,6 +76,12 @@ fn passes(settings: &Settings, strings: &[Vec<u8>]) -> f64 {
     call / pass
 }
 
+/// The value of all windows of a run.
+fn value(settings: &Settings, byte: u8) -> String {
+    let rule = settings.rule(1);
+    window_value(&vec![byte; rule.window], 0, &rule).to_string()
+}
+
 /// Measures one setting and prints its row; the passes of each content beside those of random bytes.
 fn row(settings: &Settings) -> [Figure; 4] {
     let length = length(settings);
@@ -86,9 +95,10 @@ fn row(settings: &Settings) -> [Figure; 4] {
     };
     let cells: [Vec<String>; 2] = [cells(&passes), cells(&ratios[1..])];
     println!(
-        "| {} | {} | {length} | {} |",
+        "| {} | {} | {length} | {} | {} |",
         name(settings),
         settings.nominal / 2,
+        RUNS.map(|(_, byte)| value(settings, byte)).join(" | "),
         cells.concat().join(" | ")
     );
     ratios.map(|ratio| (ratio, format!("{}, {length} bytes", name(settings))))
@@ -121,12 +131,15 @@ pub fn run() {
         .iter()
         .map(|content| format!("{content} / random"))
         .collect();
-    println!(
-        "| w p L M | h | bytes | {} | {} |",
-        CONTENTS.join(" | "),
-        beside.join(" | ")
-    );
-    println!("|---|{}", "---:|".repeat(2 + CONTENTS.len() + beside.len()));
+    let heads = [
+        RUNS.map(|(content, _)| format!("value of {content}"))
+            .to_vec(),
+        CONTENTS.map(str::to_string).to_vec(),
+        beside,
+    ]
+    .concat();
+    println!("| w p L M | h | bytes | {} |", heads.join(" | "));
+    println!("|---|{}", "---:|".repeat(2 + heads.len()));
     let all = WINDOWS
         .iter()
         .flat_map(|w| DISTANCES.map(|h| settings(*w, h)));

@@ -2,13 +2,8 @@
 
 use reference::vectors::string;
 
-/// The contents, in the order of the table's columns, and their kinds as `vectors` numbers them. Sevens are equal bytes whose
-/// window value is mostly not 0, so that the search can pass over none of it.
+/// The contents, in the order of the table's columns, and their kinds as `vectors` numbers them.
 pub const CONTENTS: [(&str, u64); 4] = [("zeros", 0), ("random", 2), ("samples", 4), ("sevens", 1)];
-
-/// The place of each content that a figure names.
-pub const ZEROS: usize = 0;
-pub const SEVENS: usize = 3;
 
 /// The lengths in KiB, each four times the one before.
 pub const SIZES: [usize; 3] = [4, 16, 64];

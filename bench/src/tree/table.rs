@@ -2,7 +2,7 @@
 
 use super::growth::{growth, name, worst, Figure};
 use super::measure::{Cost, Row};
-use super::strings::{CONTENTS, SEVENS, SIZES, ZEROS};
+use super::strings::{CONTENTS, SIZES};
 use reference::settings::Settings;
 
 /// One level with h from 1 to 32,768; four levels with p = 2 and with p = 8, the first h from 8 to
@@ -81,21 +81,12 @@ fn longest(row: &Row) -> Vec<Figure> {
     row.costs.iter().zip(CONTENTS).map(figure).collect()
 }
 
-/// How the time grows with the string.
-fn print_growth(rows: &[Row]) {
-    let all = |content: usize| rows.iter().flat_map(move |row| growth(row, content));
-    let (most, place) = worst((ZEROS..SEVENS).flat_map(all));
-    println!("Four times the bytes cost at most {most:.2} times the time ({place}).");
-    let (most, place) = worst(all(SEVENS));
-    println!(
-        "For sevens they cost at most {most:.2} times the time ({place}): the shorter string has no position \
-         where a cut may lie and is only hashed, and of the longer one most windows are looked at."
-    );
-}
-
 /// The worst figures, in sentences.
 pub fn print_worst(rows: &[Row]) {
-    print_growth(rows);
+    let contents = 0..CONTENTS.len();
+    let all = contents.flat_map(|content| rows.iter().flat_map(move |row| growth(row, content)));
+    let (most, place) = worst(all);
+    println!("Four times the bytes cost at most {most:.2} times the time ({place}).");
     let four = rows.iter().filter(|row| row.settings.levels == 4);
     let (most, place) = worst(four.flat_map(longest));
     println!(

@@ -6,6 +6,7 @@ use crate::pass::call_and_pass;
 use reference::partition::window_values;
 use reference::rcds::ACCEPTED;
 use reference::settings::Settings;
+use reference::spread::{table, ENTRIES};
 use std::hint::black_box;
 
 const LENGTH: usize = 65_536;
@@ -20,27 +21,37 @@ fn settings(window: usize, nominal: usize) -> Settings {
     }
 }
 
-/// A window's bytes as a base-257 number modulo 65,521.
-fn remainder(window: &[u8]) -> u32 {
-    let digit = |number: u32, &byte: &u8| (number * 257 + u32::from(byte)) % 65_521;
+/// The entries that stand for the bytes.
+type Entries = [u32; ENTRIES];
+
+/// The base in which a window is read, and the prime that the number is taken by.
+const BASE: u32 = 257;
+const PRIME: u32 = 65_521;
+
+/// The entries of a window's bytes as a base-257 number modulo 65,521.
+fn remainder(entries: &Entries, window: &[u8]) -> u32 {
+    let digit = |number: u32, &byte: &u8| (number * BASE + entries[usize::from(byte)]) % PRIME;
     window.iter().fold(0, digit)
 }
 
 /// The least value of all windows, each window read afresh.
-fn afresh(bytes: &[u8], window: usize, modulus: u32) -> u32 {
+fn afresh(entries: &Entries, bytes: &[u8], window: usize, modulus: u32) -> u32 {
     let values = bytes
         .windows(window)
-        .map(|bytes| remainder(bytes) % modulus);
+        .map(|bytes| remainder(entries, bytes) % modulus);
     values.min().expect("a window fits")
 }
 
-/// The least value of all windows, from a running value.
-fn running(bytes: &[u8], window: usize, modulus: u32) -> u32 {
-    let place = (0..window).fold(1, |place, _| place * 257 % 65_521);
-    let mut number = remainder(&bytes[..window]);
+/// The least value of all windows, from a running value. The entry that leaves has come to count 257^w, and that is taken away; the
+/// product is taken modulo 65,521 before it is added, so that 32 bits hold the sum.
+fn running(entries: &Entries, bytes: &[u8], window: usize, modulus: u32) -> u32 {
+    let away = PRIME - (0..window).fold(1, |place, _| place * BASE % PRIME);
+    let entry = |byte: u8| entries[usize::from(byte)];
+    let mut number = remainder(entries, &bytes[..window]);
     let mut least = number % modulus;
     for (&leaves, &enters) in bytes.iter().zip(&bytes[window..]) {
-        number = (number * 257 + u32::from(enters) + u32::from(leaves) * (65_521 - place)) % 65_521;
+        let gone = entry(leaves) * away % PRIME;
+        number = (number * BASE + entry(enters) + gone) % PRIME;
         least = least.min(number % modulus);
     }
     least
@@ -94,12 +105,14 @@ fn print_row(window: usize) {
     let rule = settings.rule(1);
     let bytes = string(&settings);
     let modulus = rule.modulus as u32;
+    let entries = table().map(|entry| entry as u32);
     let least = window_values(&bytes, &rule).into_iter().min();
-    let time = |work: fn(&[u8], usize, u32) -> u32| {
-        let value = work(&bytes, window, modulus);
+    let time = |work: fn(&Entries, &[u8], usize, u32) -> u32| {
+        let value = work(&entries, &bytes, window, modulus);
         assert_eq!(Some(u64::from(value)), least);
         passes(&bytes, || {
             black_box(work(
+                black_box(&entries),
                 black_box(&bytes),
                 black_box(window),
                 black_box(modulus),

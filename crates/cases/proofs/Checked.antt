@@ -5,6 +5,8 @@ use mathlib.Core.Path.{_≡_, refl}
 use Prim.Native.Nat.{ℕ, zero, suc}
 use borrow.Author.Tests.{eqb-true}
 use lib.Dec.{eqb}
+use Rattle.fnv.specs.Fnv.{hashFrom, hashStep}
+use Rattle.spread.specs.Spreading.{spreadOf}
 use Rattle.partition.specs.Cuts.{numberFrom, windowAt, valueAt, lowest, candidate, consIf, passing, spaced, cutsOf}
 use Rattle.partition.specs.Blocks.{blocksFrom, blocksOf}
 use Rattle.tree.specs.Tree.{childrenOf, inTurn, treeOf, nodesOf}
@@ -25,7 +27,7 @@ all [] = true
 all (c ∷ cs) = same (c .got) (c .want) && all cs
 
 pub checked : all cases ≡ true
-unfolding all same cases valuesFrom extents counted flatten numberFrom windowAt valueAt lowest candidate consIf passing spaced cutsOf blocksFrom blocksOf childrenOf inTurn treeOf nodesOf single without tally pairsOf total insert rising over branches trailsFrom trailsOver withKind headWord referenceWord bytesWord endWord one textTo headed wordsThen sizeOf encodeWords
+unfolding all same cases valuesFrom extents counted flatten numberFrom spreadOf hashFrom hashStep windowAt valueAt lowest candidate consIf passing spaced cutsOf blocksFrom blocksOf childrenOf inTurn treeOf nodesOf single without tally pairsOf total insert rising over branches trailsFrom trailsOver withKind headWord referenceWord bytesWord endWord one textTo headed wordsThen sizeOf encodeWords
 checked = refl
 
 same-equal : (xs ys : List ℕ) → same xs ys ≡ true → xs ≡ ys

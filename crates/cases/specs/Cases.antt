@@ -69,16 +69,16 @@ cases =
     -- "At level l (1 to L), h = M / p^l rounded down and s = w × p^(L−l+1)", with w=2, p=3, L=2, M=20.
     ∷ case (rule twoLevels 1) (6 ∷ 18 ∷ [])
     ∷ case (rule twoLevels 2) (2 ∷ 6 ∷ [])
-    -- "01 02 has value 3; ff ff has value 1."
-    ∷ case (valuesFrom 1 0 (1 ∷ 2 ∷ [])) (3 ∷ [])
+    -- "the starred cases and printed tree are worked out again": by rule 3, 01 02 has value 2; ff ff has value 1.
+    ∷ case (valuesFrom 1 0 (1 ∷ 2 ∷ [])) (2 ∷ [])
     ∷ case (valuesFrom 1 0 (255 ∷ 255 ∷ [])) (1 ∷ [])
-    -- "w=3, before s: 01 00 00 gives 528."
-    ∷ case (windowAt 3 (1 ∷ 0 ∷ 0 ∷ []) 0 ∷ []) (528 ∷ [])
-    -- "00 03 00 00 01 00 has values 3 3 0 1 1, one cut at 2."
-    ∷ case (valuesFrom 5 0 sixBytes) (3 ∷ 3 ∷ 0 ∷ 1 ∷ 1 ∷ [])
-    ∷ case (cuts sixBytes) (2 ∷ [])
+    -- w=3, before s: 01 00 00 gives 43710.
+    ∷ case (windowAt 3 (1 ∷ 0 ∷ 0 ∷ []) 0 ∷ []) (43710 ∷ [])
+    -- 00 03 00 00 01 00 has values 3 1 1 3 2, one cut at 1.
+    ∷ case (valuesFrom 5 0 sixBytes) (3 ∷ 1 ∷ 1 ∷ 3 ∷ 2 ∷ [])
+    ∷ case (cuts sixBytes) (1 ∷ [])
     -- The printed tree of the six bytes.
-    ∷ case (extents (nodesOf settings sixBytes)) (0 ∷ 0 ∷ 6 ∷ 1 ∷ 0 ∷ 2 ∷ 1 ∷ 2 ∷ 4 ∷ [])
+    ∷ case (extents (nodesOf settings sixBytes)) (0 ∷ 0 ∷ 6 ∷ 1 ∷ 0 ∷ 1 ∷ 1 ∷ 1 ∷ 5 ∷ [])
     -- "The starred four and five bytes 07 now have no cut." "Three: none."
     ∷ case (cuts (7 ∷ 7 ∷ 7 ∷ 7 ∷ 7 ∷ [])) []
     ∷ case (cuts (7 ∷ 7 ∷ 7 ∷ 7 ∷ [])) []

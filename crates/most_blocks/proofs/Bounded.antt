@@ -5,21 +5,21 @@ use native.Mathlib.Nat.{suc-mul, le-div-iff-mul-le}
 use native.Mathlib.Omega.{arith}
 use lib.ListN.{length}
 use Rattle.partition.specs.Blocks.{blocksOf}
-use Rattle.partition.specs.Spread.{Spread, none, cut}
-use Rattle.partition.proofs.Placed.{cuts-spread, cuts-few}
+use Rattle.partition.specs.Apart.{Apart, none, cut}
+use Rattle.partition.proofs.Placed.{cuts-apart, cuts-few}
 use Rattle.partition.proofs.Blocks.{blocks-count}
 use Rattle.most_blocks.specs.Most.{mostBlocks}
 
 -- Cuts that are d apart need so much room.
-spread-room : {d from to c : ℕ} {cs : List ℕ} → Spread d from (c ∷ cs) to → from + suc (length cs) * d ≤ to
-spread-room {d} {cs = []} (cut low high rest) = omega (arith, suc-mul 0 d)
-spread-room {d} {cs = x ∷ cs} (cut low high rest) = omega (arith, spread-room rest, suc-mul (suc (length cs)) d)
+apart-room : {d from to c : ℕ} {cs : List ℕ} → Apart d from (c ∷ cs) to → from + suc (length cs) * d ≤ to
+apart-room {d} {cs = []} (cut low high rest) = omega (arith, suc-mul 0 d)
+apart-room {d} {cs = x ∷ cs} (cut low high rest) = omega (arith, apart-room rest, suc-mul (suc (length cs)) d)
 
 -- They are one fewer than the blocks that fit.
-spread-fits : {h to : ℕ} {cs : List ℕ} → 1 ≤ h → Spread h h cs to → suc (length cs) ≤ max 1 (to / h)
-spread-fits {cs = []} some none = omega arith
-spread-fits {h} {to} {cs = c ∷ cs} some s =
-    let room : suc (suc (length cs)) * h ≤ to = omega (arith, spread-room s, suc-mul (suc (length cs)) h) in
+apart-fits : {h to : ℕ} {cs : List ℕ} → 1 ≤ h → Apart h h cs to → suc (length cs) ≤ max 1 (to / h)
+apart-fits {cs = []} some none = omega arith
+apart-fits {h} {to} {cs = c ∷ cs} some s =
+    let room : suc (suc (length cs)) * h ≤ to = omega (arith, apart-room s, suc-mul (suc (length cs)) h) in
     let fit : suc (suc (length cs)) ≤ to / h = le-div-iff-mul-le some .1 room in
     omega arith
 
@@ -27,4 +27,4 @@ spread-fits {h} {to} {cs = c ∷ cs} some s =
 pub blocks-bounded : (w h s : ℕ) (bytes : List ℕ) → 1 ≤ h → length (blocksOf w h s bytes) ≤ mostBlocks (length bytes) w h
 unfolding mostBlocks
 blocks-bounded w h s bytes some =
-    omega (arith, blocks-count w h s bytes, cuts-few w h s bytes, spread-fits some (cuts-spread w h s bytes))
+    omega (arith, blocks-count w h s bytes, cuts-few w h s bytes, apart-fits some (cuts-apart w h s bytes))

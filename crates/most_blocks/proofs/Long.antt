@@ -7,8 +7,8 @@ use lib.Ieee.Nearest.{div-mono}
 use lib.ListN.{length, take, drop, length-append, length-take, length-drop}
 use Rattle.partition.specs.Cuts.{cutsOf}
 use Rattle.partition.specs.Blocks.{blocksFrom, blocksOf}
-use Rattle.partition.specs.Spread.{Spread, none, cut}
-use Rattle.partition.proofs.Placed.{cuts-spread}
+use Rattle.partition.specs.Apart.{Apart, none, cut}
+use Rattle.partition.proofs.Placed.{cuts-apart}
 use Rattle.node_table.specs.Laws.{Each, none, both}
 use Rattle.tree.specs.declared.Settings.{Settings}
 use Rattle.tree.specs.Questions.{spacing}
@@ -22,7 +22,7 @@ abbrev pub Long : ℕ → List (List ℕ) → Type 0
 Long h bs = Each (λ b. h ≤ length b) bs
 
 -- Blocks between cuts that are h apart, and h from either end.
-between-long : {h free to : ℕ} {cs : List ℕ} (bytes : List ℕ) (from : ℕ) → Spread h free cs to → from + h ≤ free → from + h ≤ length bytes
+between-long : {h free to : ℕ} {cs : List ℕ} (bytes : List ℕ) (from : ℕ) → Apart h free cs to → from + h ≤ free → from + h ≤ length bytes
     → to ≤ length bytes → Long h (blocksFrom from cs bytes)
 unfolding blocksFrom
 between-long {h} bytes from none a b c =
@@ -35,9 +35,9 @@ between-long {h} bytes from (cut {c = x} low high rest) a b c =
 -- Blocks of one cutting, unless it gives only one, are at least h long.
 pub blocks-long : (w h s : ℕ) (bytes : List ℕ) → 1 < length (blocksOf w h s bytes) → Long h (blocksOf w h s bytes)
 unfolding blocksOf blocksFrom
-blocks-long w h s bytes = at (cutsOf w h s bytes) (cuts-spread w h s bytes)
+blocks-long w h s bytes = at (cutsOf w h s bytes) (cuts-apart w h s bytes)
   where
-    at : (cs : List ℕ) → Spread h h cs (length bytes - w) → 1 < length (blocksFrom 0 cs bytes) → Long h (blocksFrom 0 cs bytes)
+    at : (cs : List ℕ) → Apart h h cs (length bytes - w) → 1 < length (blocksFrom 0 cs bytes) → Long h (blocksFrom 0 cs bytes)
     at [] p l = absurd (omega arith)
     at (c ∷ cs) (cut low high rest) l = between-long bytes 0 (cut low high rest) (omega arith) (omega arith) (omega arith)
 

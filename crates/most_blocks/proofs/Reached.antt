@@ -3,6 +3,8 @@ use mathlib.Core.List.{List, [], _∷_}
 use mathlib.Core.Path.{_≡_, refl}
 use Prim.Native.Nat.{ℕ, _≤_, _<_}
 use lib.ListN.{length}
+use Rattle.fnv.specs.Fnv.{hashFrom, hashStep}
+use Rattle.spread.specs.Spreading.{spreadOf}
 use Rattle.partition.specs.Cuts.{numberFrom, windowAt, valueAt, lowest, candidate, consIf, passing, spaced, cutsOf}
 use Rattle.partition.specs.Blocks.{blocksFrom, blocksOf}
 use Rattle.partition.proofs.Runs.{run-one-block}
@@ -17,5 +19,5 @@ abbrev nine : List ℕ
 nine = 0 ∷ 1 ∷ 0 ∷ 0 ∷ 1 ∷ 0 ∷ 0 ∷ 0 ∷ 0 ∷ []
 
 pub nine-reach : length (blocksOf 2 2 4 nine) ≡ mostBlocks 9 2 2
-unfolding blocksOf blocksFrom cutsOf spaced passing consIf candidate lowest valueAt windowAt numberFrom mostBlocks
+unfolding blocksOf blocksFrom cutsOf spaced passing consIf candidate lowest valueAt windowAt numberFrom spreadOf hashFrom hashStep mostBlocks
 nine-reach = refl

@@ -8,10 +8,10 @@ use lib.ListN.{length, take, drop, take-append-drop}
 use lib.Seq.{drop-drop}
 use Rattle.partition.specs.Blocks.{blocksFrom, blocksOf}
 use Rattle.partition.specs.Cuts.{cutsOf}
-use Rattle.partition.specs.Spread.{Spread, none, cut}
+use Rattle.partition.specs.Apart.{Apart, none, cut}
 use Rattle.partition.proofs.Placed.{cuts-rise, cuts-few}
 
-joined : {from to : ℕ} {cs : List ℕ} (bytes : List ℕ) → Spread 0 from cs to → flatten (blocksFrom from cs bytes) ≡ drop from bytes
+joined : {from to : ℕ} {cs : List ℕ} (bytes : List ℕ) → Apart 0 from cs to → flatten (blocksFrom from cs bytes) ≡ drop from bytes
 unfolding flatten blocksFrom
 joined {from} bytes none = append-nil (drop from bytes)
 joined {from} bytes (cut {c = c} low high rest) =

@@ -3,7 +3,7 @@
 -- of it.
 use mathlib.Core.Bool.{Bool, true, false, _&&_, false≢true}
 use mathlib.Core.List.{List}
-use mathlib.Core.Path.{_≡_, refl, sym, subst}
+use mathlib.Core.Path.{_≡_, refl, sym, ap, subst}
 use Prim.Native.Nat.{ℕ, zero, suc, _+_, _-_, _≤_, _<_}
 use native.Mathlib.Decide.{decLt, ℕ-discrete}
 use native.Mathlib.Omega.{arith}
@@ -12,6 +12,7 @@ use lib.ListN.{length}
 use borrow.Author.Tests.{le-leb, leb-true, lt-ltb, ltb-true}
 use Rattle.partition.specs.Cuts.{valueAt, lowest, candidate}
 use Rattle.partition.specs.Scans.{Low, Floor, AfterLastLow, FirstLow, FirstPassing, NextCandidate}
+use Rattle.partition.specs.Runs.{Level}
 
 both : (a b : Bool) → (a && b) ≡ true → (a ≡ true) × (b ≡ true)
 both true b e = (refl, e)
@@ -111,6 +112,30 @@ pub record Searched (w h s : ℕ) (bytes : List ℕ) (from a f : ℕ) : Type 0 w
 
 pub searched-start : (w h s : ℕ) (bytes : List ℕ) (from f : ℕ) → Floor (valueAt w s bytes) h f from → Searched w h s bytes from from f
 searched-start w h s bytes from f F = record { low = omega arith; none = λ j a b. absurd (omega arith); floor = F }
+
+-- On past values that are as the one before them.
+pub searched-past : (w h s : ℕ) (bytes : List ℕ) (from here a b f : ℕ) → h ≤ from → Searched w h s bytes from here f → a ≡ here
+    → Level h (valueAt w s bytes) a b → Searched w h s bytes from b f
+searched-past w h s bytes from here a b f far S e L =
+    record { low = omega arith; none = λ j x y. none j x y (decLt j a); floor = record { before = λ j x y. floor j x y (decLt j a) } }
+  where
+    none : (j : ℕ) → from ≤ j → j < b → Dec (j < a) → candidate w h s bytes j ≡ false
+    none j x y (yes q) = S .none j x (omega arith)
+    none j x y (no q) =
+        not-candidate w h s bytes j
+        (λ c.
+        let some = L .near (omega arith) in
+        omega (arith, L .same j (omega arith) y, before (decLt (j - 1) a), c .low .before (j - 1) (omega arith) (omega arith)))
+      where
+        before : Dec (j - 1 < a) → valueAt w s bytes (j - 1) ≡ valueAt w s bytes (a - 1)
+        before (yes r) = ap (valueAt w s bytes) (let e : j - 1 ≡ a - 1 = omega arith in e)
+        before (no r) = L .same (j - 1) (omega arith) (omega arith)
+
+    floor : (j : ℕ) → b ≤ j + h → j < b → Dec (j < a) → f ≤ valueAt w s bytes j
+    floor j x y (yes q) = S .floor .before j (omega arith) (omega arith)
+    floor j x y (no q) =
+        let some = L .near (omega arith) in
+        omega (arith, L .same j (omega arith) y, S .floor .before (a - 1) (omega arith) (omega arith))
 
 module _ (w h s : ℕ) (bytes : List ℕ) (from end : ℕ) (far : h ≤ from) (some : from < end) (within : end + w + h ≤ length bytes + 1) (a f : ℕ)
     (S : Searched w h s bytes from a f) where

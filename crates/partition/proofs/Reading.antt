@@ -1,4 +1,4 @@
--- A window's number, read byte by byte with the remainder taken at each step: taking it early changes nothing modulo 65,521.
+-- A window's number, read digit by digit with the remainder taken at each step: taking it early changes nothing modulo 65,521.
 use mathlib.Core.List.{List, [], _∷_}
 use mathlib.Core.Path.{_≡_, refl, sym, ap, _∙_}
 use Prim.Native.Nat.{ℕ, suc, _+_, _*_, _-_, _/_, _%_, _≤_, _<_}
@@ -30,20 +30,20 @@ early x (b ∷ bs) =
     ∙ ap (λ (y : ℕ). numberFrom y bs % 65521) (step x b)
     ∙ early (x * 257 + b) bs
 
--- One byte of the bytes from j up to `to`, and then the others.
-pub read-one : (x : ℕ) (bytes : List ℕ) (j to : ℕ) → j < to → to ≤ length bytes
-    → numberFrom x (take (to - j) (drop j bytes)) % 65521
-    ≡ numberFrom ((x * 257 + getD bytes j 0) % 65521) (take (to - (j + 1)) (drop (j + 1) bytes)) % 65521
+-- One of the digits from j up to `to`, and then the others.
+pub read-one : (x : ℕ) (digits : List ℕ) (j to : ℕ) → j < to → to ≤ length digits
+    → numberFrom x (take (to - j) (drop j digits)) % 65521
+    ≡ numberFrom ((x * 257 + getD digits j 0) % 65521) (take (to - (j + 1)) (drop (j + 1) digits)) % 65521
 unfolding numberFrom
-read-one x bytes j to h k =
+read-one x digits j to h k =
     let e : to - j ≡ suc (to - (j + 1)) = omega arith in
-    let l : j < length bytes = omega arith in
-    rw (e, drop-cons bytes j 0, ← add-one j) (sym (early (x * 257 + getD bytes j 0) (take (to - (j + 1)) (drop (j + 1) bytes))))
+    let l : j < length digits = omega arith in
+    rw (e, drop-cons digits j 0, ← add-one j) (sym (early (x * 257 + getD digits j 0) (take (to - (j + 1)) (drop (j + 1) digits))))
 
--- No byte is left.
-pub read-none : (x : ℕ) (bytes : List ℕ) (j to : ℕ) → to ≤ j → x < 65521 → numberFrom x (take (to - j) (drop j bytes)) % 65521 ≡ x
+-- No digit is left.
+pub read-none : (x : ℕ) (digits : List ℕ) (j to : ℕ) → to ≤ j → x < 65521 → numberFrom x (take (to - j) (drop j digits)) % 65521 ≡ x
 unfolding numberFrom
-read-none x bytes j to h k =
+read-none x digits j to h k =
     let e : to - j ≡ 0 = omega arith in
     rw e (mod-eq-of-lt k)
 

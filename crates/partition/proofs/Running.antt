@@ -5,6 +5,7 @@ use Prim.Native.Nat.{ℕ, zero, suc, _+_, _-_, _%_, _≤_, _<_}
 use native.Mathlib.Nat.{add-zero}
 use native.Mathlib.Omega.{arith}
 use lib.ListN.{length, getD}
+use Rattle.spread.specs.Spreading.{spreadOf}
 use Rattle.partition.specs.Cuts.{windowAt, valueAt}
 use Rattle.partition.specs.Sliding.{slid, running, Stands}
 use Rattle.partition.proofs.Reading.{window-small, value-of}
@@ -15,7 +16,7 @@ pub running-is : (w : ℕ) (bytes : List ℕ) (from steps : ℕ) → from + step
 unfolding running
 running-is w bytes from zero l = sym (ap (windowAt w bytes) (add-zero from))
 running-is w bytes from (suc k) l =
-    ap (λ (x : ℕ). slid w x (getD bytes (from + k) 0) (getD bytes (from + k + w) 0)) (running-is w bytes from k (omega arith))
+    ap (λ (x : ℕ). slid w x (spreadOf (getD bytes (from + k) 0)) (spreadOf (getD bytes (from + k + w) 0))) (running-is w bytes from k (omega arith))
     ∙ shifted w bytes (from + k) (omega arith)
     ∙ ap (windowAt w bytes) (let e : from + k + 1 ≡ from + suc k = omega arith in e)
 
@@ -48,7 +49,7 @@ module _ {w : ℕ} {bytes : List ℕ} {from : ℕ} where
     pub runs-small : x < 65521
     runs-small = rw (R .value) (running-small w bytes from (j - from))
 
-    pub runs-on : {y : ℕ} → y ≡ slid w x (getD bytes j 0) (getD bytes (j + w) 0) → Runs w bytes from (j + 1) y
+    pub runs-on : {y : ℕ} → y ≡ slid w x (spreadOf (getD bytes j 0)) (spreadOf (getD bytes (j + w) 0)) → Runs w bytes from (j + 1) y
     unfolding running
     runs-on e =
         let more : j + 1 - from ≡ suc (j - from) = omega arith in

@@ -1,27 +1,29 @@
 -- Where one block is cut: document 01, 'Settings and tree', from 'Window value at i' to 'After 31 cuts no more are made', with the cutting rule of
--- document 02, request 7.
+-- document 02, requests 7 and 12.
 use mathlib.Core.Bool.{Bool, true, false, cond, _&&_}
-use mathlib.Core.List.{List, [], _∷_}
+use mathlib.Core.List.{List, [], _∷_, map}
 use Prim.Native.Nat.{ℕ, zero, suc, _+_, _*_, _-_, _%_}
 use lib.Dec.{leb, ltb}
 use lib.ListN.{length, take, drop}
+use Rattle.spread.specs.Spreading.{spreadOf}
 
--- Bytes read as a base-257 number, first byte highest, going on after the number x.
+-- Digits read as a base-257 number, the first highest, going on after the number x.
 unfoldable pub numberFrom : ℕ → List ℕ → ℕ
 numberFrom x [] = x
 numberFrom x (b ∷ bs) = numberFrom (x * 257 + b) bs
 
--- "read w bytes from i as a base-257 number, first byte highest; take it modulo 65,521"
+-- "read w bytes from i as a base-257 number, first byte highest; take it modulo 65,521", and "Before the base-257 reading, each byte b is
+-- replaced by entry b of a constant table".
 unfoldable pub windowAt : ℕ → List ℕ → ℕ → ℕ
-windowAt w bytes i = numberFrom 0 (take w (drop i bytes)) % 65521
+windowAt w bytes i = numberFrom 0 (take w (drop i (map spreadOf bytes))) % 65521
 
 -- "then modulo s"
 unfoldable pub valueAt : ℕ → ℕ → List ℕ → ℕ → ℕ
 valueAt w s bytes i = windowAt w bytes i % s
 
--- The number of this rule: "The opening's rule number becomes 2".
+-- The number of this rule: "The rule number becomes 3".
 abbrev pub ruleNumber : ℕ
-ruleNumber = 2
+ruleNumber = 3
 
 -- The value at i is "smaller than each of the [d] values before it and not greater than the [d] after it".
 unfoldable pub lowest : (ℕ → ℕ) → ℕ → ℕ → Bool

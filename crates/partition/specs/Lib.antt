@@ -4,4 +4,5 @@ pub mod Blocks
 pub mod Found
 pub mod Sliding
 pub mod Scans
-pub mod Spread
+pub mod Runs
+pub mod Apart

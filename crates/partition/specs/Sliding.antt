@@ -1,11 +1,13 @@
--- A window that slides: document 02, request 4, and below its words what a window promises. No public contract cites these.
+-- A window that slides: document 02, request 4, "over table entries" since request 12, and below its words what a window promises. No public
+-- contract cites these.
 use mathlib.Core.List.{List}
 use mathlib.Core.Path.{_≡_}
 use Prim.Native.Nat.{ℕ, zero, suc, _+_, _*_, _-_, _%_, _^_, _≤_, _<_}
 use lib.ListN.{getD}
+use Rattle.spread.specs.Spreading.{spreadOf}
 use Rattle.partition.specs.Cuts.{windowAt, valueAt}
 
--- How often a byte is added that a window of w bytes leaves. One place further it would count 257^w times; modulo 65,521, adding something 65,520
+-- How often a digit is added that a window of w bytes leaves. One place further it would count 257^w times; modulo 65,521, adding something 65,520
 -- times takes it away once.
 abbrev pub leavingOf : ℕ → ℕ
 leavingOf w = 65520 * 257 ^ w
@@ -17,7 +19,7 @@ slid w before leaves enters = (before * 257 + enters + leaves * leavingOf w) % 6
 -- "keep the base-257 remainder as a running value": that of the first window, which starts at `from`, and then step by step.
 unfoldable pub running : (w : ℕ) → List ℕ → (from steps : ℕ) → ℕ
 running w bytes from zero = windowAt w bytes from
-running w bytes from (suc k) = slid w (running w bytes from k) (getD bytes (from + k) 0) (getD bytes (from + k + w) 0)
+running w bytes from (suc k) = slid w (running w bytes from k) (spreadOf (getD bytes (from + k) 0)) (spreadOf (getD bytes (from + k + w) 0))
 
 -- m leaves the same remainders as s of all numbers below 65,521, and is not 0.
 pub record Modulus (s m : ℕ) : Type 0 where

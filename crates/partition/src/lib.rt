@@ -1,13 +1,15 @@
-// Where one block of bytes is cut, by the rule of document 02, request 7.
+// Where one block of bytes is cut, by rule 3: document 02, requests 7 and 12.
 ghost use Rattle.partition.specs.Found.{Found};
 
+mod digit;
+mod run;
 mod scan;
 mod sliding;
 mod start;
 mod window;
 
 // The number of this rule, which an opening carries.
-pub const RULE_NUMBER: u64 = 2;
+pub const RULE_NUMBER: u64 = 3;
 
 // The cuts of one block, from the left: the first n numbers of `at`.
 pub struct Cuts {
@@ -25,12 +27,13 @@ pub fn find_cuts(bytes: &[u8], w: usize, h: usize, s: u64) -> Cuts
     if end <= h {
         return Cuts { n, at };
     }
+    let table = spread::table();
     let window = sliding::window_of(w, s);
     let step = scan::step(h);
     let mut a = h;
     let mut floor: u32 = 0;
     while a < end {
-        let cut = scan::next_candidate(bytes, window, h, floor, a, end);
+        let cut = scan::next_candidate(bytes, &table[..], window, h, floor, a, end);
         let p = cut.at;
         if end <= p {
             return Cuts { n, at };

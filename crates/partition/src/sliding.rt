@@ -2,7 +2,9 @@
 ghost use mathlib.Core.Path.{_≡_};
 ghost use Prim.Native.Nat.{_+_, _%_, _<_};
 ghost use lib.ListN.{length, getD};
+ghost use Rattle.spread.specs.Spreading.{spreadOf, Spreads};
 ghost use Rattle.partition.specs.Sliding.{leavingOf, slid, Modulus, Sized};
+use super::digit::digit;
 
 // A window of so many bytes whose values are taken modulo `modulus`.
 pub struct Window {
@@ -65,21 +67,28 @@ pub fn window_of(w: usize, s: u64) -> Window
     Window { width: w, modulus }
 }
 
-// One step of a window of w bytes with the number x: the byte `old` leaves and the byte `new` enters.
-fn slide(w: usize, x: u32, old: u8, new: u8) -> u32
+// One step of a window of w bytes with the number x: the digit `old` leaves and the digit `new` enters. What leaves is reduced by itself, since it
+// does not wait for x: a step then takes no longer than the way from one number to the next.
+fn slide(w: usize, x: u32, old: u32, new: u32) -> u32
     requires { ⌜ x < 65521 ⌝ }
+    requires { ⌜ old < 65521 ⌝ }
+    requires { ⌜ new < 65521 ⌝ }
     ensures { λ r. ⌜ r ≡ slid w x old new ⌝ }
 {
     let often = leaving(w);
-    (x * 257 + new as u32 + old as u32 * often) % 65521
+    let left = old * often % 65521;
+    (x * 257 + new + left) % 65521
 }
 
 // The running value x of a window of w bytes at j, one step on.
-pub fn next(bytes: &[u8], w: usize, x: u32, j: usize) -> u32
+pub fn next(bytes: &[u8], table: &[u16], w: usize, x: u32, j: usize) -> u32
+    requires { ⌜ Spreads (now table) ⌝ }
     requires { ⌜ j + w < length (now bytes) ⌝ }
     requires { ⌜ x < 65521 ⌝ }
-    ensures { λ r. ⌜ r ≡ slid w x (getD (now (bytes .entry)) j 0) (getD (now (bytes .entry)) (j + w) 0) ⌝ }
+    ensures { λ r. ⌜ r ≡ slid w x (spreadOf (getD (now (bytes .entry)) j 0)) (spreadOf (getD (now (bytes .entry)) (j + w) 0)) ⌝ }
 {
     let entering = j + w;
-    slide(w, x, bytes[j], bytes[entering])
+    let old = digit(table, bytes[j]);
+    let new = digit(table, bytes[entering]);
+    slide(w, x, old, new)
 }

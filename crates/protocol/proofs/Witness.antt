@@ -9,6 +9,7 @@ use borrow.Author.Tests.{le-leb}
 use lib.ListN.{length, replicate}
 use Rattle.rows.specs.Rows.{bytesOf}
 use Rattle.fnv.specs.Fnv.{hashStep, hashFrom, blockId}
+use Rattle.spread.specs.Spreading.{spreadOf}
 use Rattle.partition.specs.Cuts.{numberFrom, windowAt, valueAt, lowest as lowestValue, candidate, consIf, passing, spaced, cutsOf}
 use Rattle.partition.specs.Blocks.{blocksFrom, blocksOf as blocks}
 use Rattle.tree.specs.declared.Settings.{Settings}
@@ -61,11 +62,11 @@ abbrev theirList : List Shingle
 theirList = theirRoot ∷ theirLeaf ∷ []
 
 own-list : shinglesOfString σ own ≡ ownList
-unfolding shinglesOfString shinglesOf counted counting lower earlier first pairsOf pairsAfter siblingOf nodesOf treeOf inTurn childrenOf blocks blocksFrom cutsOf spaced passing consIf candidate lowestValue valueAt windowAt numberFrom blockId hashFrom hashStep
+unfolding shinglesOfString shinglesOf counted counting lower earlier first pairsOf pairsAfter siblingOf nodesOf treeOf inTurn childrenOf blocks blocksFrom cutsOf spaced passing consIf candidate lowestValue valueAt windowAt numberFrom spreadOf blockId hashFrom hashStep
 own-list = refl
 
 their-list : shinglesOfString σ string ≡ theirList
-unfolding shinglesOfString shinglesOf counted counting lower earlier first pairsOf pairsAfter siblingOf nodesOf treeOf inTurn childrenOf blocks blocksFrom cutsOf spaced passing consIf candidate lowestValue valueAt windowAt numberFrom blockId hashFrom hashStep
+unfolding shinglesOfString shinglesOf counted counting lower earlier first pairsOf pairsAfter siblingOf nodesOf treeOf inTurn childrenOf blocks blocksFrom cutsOf spaced passing consIf candidate lowestValue valueAt windowAt numberFrom spreadOf blockId hashFrom hashStep
 their-list = refl
 
 abbrev ownCells : List ℕ
@@ -143,7 +144,7 @@ abbrev block : ℕ → List ℕ → Content
 block l bytes = record { level = l; bytes = bytes }
 
 all-blocks : blocksOf σ own ++ blocksOf σ string ≡ block 0 own ∷ block 1 own ∷ block 0 string ∷ block 1 string ∷ []
-unfolding blocksOf nodesOf treeOf inTurn childrenOf blocks blocksFrom cutsOf spaced passing consIf candidate lowestValue valueAt windowAt numberFrom blockId hashFrom hashStep
+unfolding blocksOf nodesOf treeOf inTurn childrenOf blocks blocksFrom cutsOf spaced passing consIf candidate lowestValue valueAt windowAt numberFrom spreadOf blockId hashFrom hashStep
 all-blocks = refl
 
 one-of-two : (c : Content) → In c (block 0 own ∷ block 1 own ∷ block 0 string ∷ block 1 string ∷ []) → (c .bytes ≡ own) ⊎ (c .bytes ≡ string)
@@ -169,11 +170,11 @@ no-collision =
     }
 
 sender : Accepted σ string
-unfolding Every refusal ask nodesOf treeOf inTurn childrenOf blocks blocksFrom cutsOf spaced passing consIf candidate lowestValue valueAt windowAt numberFrom
+unfolding Every refusal ask nodesOf treeOf inTurn childrenOf blocks blocksFrom cutsOf spaced passing consIf candidate lowestValue valueAt windowAt numberFrom spreadOf
 sender = record { bytes = (omega arith, tt); questions = refl; few = omega arith }
 
 own-few : length (nodesOf σ own) ≡ 2
-unfolding nodesOf treeOf inTurn childrenOf blocks blocksFrom cutsOf spaced passing consIf candidate lowestValue valueAt windowAt numberFrom
+unfolding nodesOf treeOf inTurn childrenOf blocks blocksFrom cutsOf spaced passing consIf candidate lowestValue valueAt windowAt numberFrom spreadOf
 own-few = refl
 
 module _ (nodes shingles cells output : List ℕ) (room : (65536 ≤ length nodes) × (98304 ≤ length shingles) × (360 ≤ length cells) × (1 ≤ length output)) where

@@ -9,7 +9,7 @@ use lib.ListN.{length, getD, take, drop, length-drop, drop-of-length-le}
 use lib.Seq.{drop-cons, getD-take, length-take-le, take-all}
 use Rattle.partition.specs.Blocks.{blocksFrom, blocksOf}
 use Rattle.partition.specs.Found.{Found}
-use Rattle.partition.specs.Spread.{Spread, cut}
+use Rattle.partition.specs.Apart.{Apart, cut}
 use Rattle.partition.proofs.Placed.{cuts-rise}
 use Rattle.tree.specs.declared.Settings.{Settings}
 use Rattle.tree.specs.Questions.{spacing, modulus}
@@ -37,8 +37,8 @@ pub walk-all : (σ : Settings) (left level start next at : ℕ) (bytes : List �
 unfolding childrenOf blocksOf
 walk-all σ left level start next at bytes n cuts found e = rw (found .cuts, add-zero, e)
 
-pub found-spread : (w h s : ℕ) (bytes : List ℕ) (n : ℕ) (at : List ℕ) → Found w h s bytes n at → Spread 0 0 (take n at) (length bytes)
-found-spread w h s bytes n at found = rw (found .cuts) (cuts-rise w h s bytes)
+pub found-apart : (w h s : ℕ) (bytes : List ℕ) (n : ℕ) (at : List ℕ) → Found w h s bytes n at → Apart 0 0 (take n at) (length bytes)
+found-apart w h s bytes n at found = rw (found .cuts) (cuts-rise w h s bytes)
 
 -- The cuts from the next child on: the one where it ends, and those after it.
 next-cut : (at : List ℕ) (n child : ℕ) → child < n → n ≤ length at → drop child (take n at) ≡ getD at child 0 ∷ drop (child + 1) (take n at)
@@ -49,16 +49,16 @@ next-cut at n child h long =
 pub record ChildEnd (from to : ℕ) (at : List ℕ) (n child size : ℕ) : Type 0 where
   pub low : from ≤ to
   pub high : to ≤ size
-  pub next : child < n → (to ≡ getD at child 0) × Spread 0 to (drop (child + 1) (take n at)) size
+  pub next : child < n → (to ≡ getD at child 0) × Apart 0 to (drop (child + 1) (take n at)) size
   pub last : n ≤ child → to ≡ size
 
-spread-next : {from c size : ℕ} {cuts : List ℕ} → Spread 0 from (c ∷ cuts) size → (from ≤ c) × ((c ≤ size) × Spread 0 c cuts size)
-spread-next (cut low high rest) = (low, (rw add-zero at high, rw add-zero at rest))
+apart-next : {from c size : ℕ} {cuts : List ℕ} → Apart 0 from (c ∷ cuts) size → (from ≤ c) × ((c ≤ size) × Apart 0 c cuts size)
+apart-next (cut low high rest) = (low, (rw add-zero at high, rw add-zero at rest))
 
 module _ (from to : ℕ) (at : List ℕ) (n child size : ℕ) where
-  pub ends-at-cut : child < n → n ≤ length at → Spread 0 from (drop child (take n at)) size → to ≡ getD at child 0 → ChildEnd from to at n child size
+  pub ends-at-cut : child < n → n ≤ length at → Apart 0 from (drop child (take n at)) size → to ≡ getD at child 0 → ChildEnd from to at n child size
   ends-at-cut h long spread e =
-      let s = spread-next (rw (next-cut at n child h long) at spread) in
+      let s = apart-next (rw (next-cut at n child h long) at spread) in
       record { low = rw e (s .0); high = rw e (s .1 .0); next = λ k. (e, rw e (s .1 .1)); last = λ k. absurd (omega arith) }
 
   pub ends-with-node : n ≤ child → from ≤ size → to ≡ size → ChildEnd from to at n child size

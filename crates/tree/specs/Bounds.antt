@@ -4,7 +4,7 @@ use mathlib.Core.Path.{_≡_}
 use Prim.Native.Nat.{ℕ, _+_, _^_, _≤_, _<_}
 use lib.Dec.{leb}
 use lib.ListN.{length, take, drop}
-use Rattle.partition.specs.Spread.{Spread}
+use Rattle.partition.specs.Apart.{Apart}
 use Rattle.tree.specs.declared.Settings.{Settings}
 use Rattle.tree.specs.Questions.{within, ask}
 
@@ -49,4 +49,4 @@ pub record Walking (σ : Settings) (left level start size : ℕ) (at : List ℕ)
   pub few : n ≤ 31
   pub counted : child ≤ n
   pub begun : from ≤ size
-  pub parted : Spread 0 from (drop child (take n at)) size
+  pub parted : Apart 0 from (drop child (take n at)) size

@@ -124,8 +124,8 @@ fn refused_lines() {
 
 // Rulers: the most nodes that a tree may have, and more.
 fn ruler_lines() {
-    tree_line(2, 8, 4, 4096, 6, 7939);
-    tree_line(2, 8, 4, 4096, 6, 7940);
+    tree_line(2, 8, 4, 4096, 6, 6670);
+    tree_line(2, 8, 4, 4096, 6, 6671);
     tree_line(2, 8, 4, 4096, 6, 9000);
 }
 
@@ -225,7 +225,7 @@ fn refused_setup_lines() {
 }
 
 fn ruler_setup_lines() {
-    setup_line(2, 8, 4, 4096, 63, 6, 7939);
+    setup_line(2, 8, 4, 4096, 63, 6, 6670);
     setup_line(2, 8, 4, 4096, 63, 6, 9000);
 }
 

@@ -26,18 +26,18 @@ fn sample_byte(i: usize) -> u8 {
     }
 }
 
-// Byte i of a ruler, whose marks are the lower the further apart they stand: such a string has many nodes at every level.
+// Byte i of a ruler, with a mark at every 560th, 80th, 10th and 2nd byte: such a string has many nodes at every level.
 fn ruler_byte(i: usize) -> u8 {
     if i % 560 == 0 {
-        return 0;
+        return 98;
     }
-    if i % 70 == 0 {
-        return 211;
+    if i % 80 == 0 {
+        return 249;
     }
     if i % 10 == 0 {
-        return 235;
+        return 215;
     }
-    if i % 2 == 0 { 255 } else { 112 }
+    if i % 2 == 0 { 122 } else { 230 }
 }
 
 // Byte i of a string of the kind, where x is the generator's number for it.

@@ -23,10 +23,12 @@ pub enum Content {
     Edited,
     /// Eight bytes whose FNV-1a is 0, once or several times.
     HashesToZero,
+    /// Any bytes, and one value again and again among them.
+    OneOften,
 }
 
 /// All kinds, in the order of their declaration.
-pub const KINDS: [Content; 13] = [
+pub const KINDS: [Content; 14] = [
     Content::Random,
     Content::Zeros,
     Content::AllEqual,
@@ -40,6 +42,7 @@ pub const KINDS: [Content; 13] = [
     Content::Repeats,
     Content::Edited,
     Content::HashesToZero,
+    Content::OneOften,
 ];
 
 /// A string of this content and length.
@@ -67,7 +70,19 @@ pub fn string(content: Content, length: usize, random: &mut Random) -> Vec<u8> {
             .cycle()
             .take(length)
             .collect(),
+        Content::OneOften => often(random.number() as u8, length, random),
     }
+}
+
+/// Any bytes, and this one at every second to fifth place.
+pub fn often(byte: u8, length: usize, random: &mut Random) -> Vec<u8> {
+    let mut bytes = random.bytes(length);
+    let mut place = random.between(0, 4) as usize;
+    while let Some(replaced) = bytes.get_mut(place) {
+        *replaced = byte;
+        place += random.between(2, 5) as usize;
+    }
+    bytes
 }
 
 fn few_symbols(length: usize, random: &mut Random) -> Vec<u8> {

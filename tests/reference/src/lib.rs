@@ -26,6 +26,7 @@ pub mod settings;
 pub mod shingle;
 pub mod shingle_table;
 pub mod sketch;
+pub mod spread;
 pub mod strata;
 pub mod trail;
 pub mod tree;

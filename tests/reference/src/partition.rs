@@ -1,6 +1,10 @@
-//! How one string is cut into blocks by rule 2: window values, candidates, cuts.
+//! How one string is cut into blocks by rule 3 (document 02, requests 7 and 12): window values, candidates, cuts.
+//!
+//! Windows count bytes. What is read in them is each byte's entry of the table in `spread`; cuts, blocks and ids are
+//! those of the bytes.
 
 use crate::settings::Rule;
+use crate::spread::entry;
 
 /// "After 31 cuts no more are made."
 pub const MOST_CUTS: usize = 31;
@@ -16,13 +20,15 @@ pub struct Block {
     pub length: usize,
 }
 
-/// "read w bytes from i as a base-257 number, first byte highest; take it modulo 65,521"
+/// "read w bytes from i as a base-257 number, first byte highest; take it modulo 65,521", and "Before the base-257
+/// reading, each byte b is replaced by entry b of a constant table" (document 02, request 12).
 ///
-/// Twelve digits of base 257 stay below 2^128, so the number is read whole.
+/// An entry may be more than any digit of base 257: it counts for what it is. Twelve of them, each below 2^16, stay
+/// below 2^128, so the number is read whole.
 pub fn window_remainder(string: &[u8], i: usize, window: usize) -> u64 {
     let mut number: u128 = 0;
     for &byte in &string[i..i + window] {
-        number = number * 257 + u128::from(byte);
+        number = number * 257 + u128::from(entry(byte));
     }
     (number % 65_521) as u64
 }
@@ -44,11 +50,12 @@ pub fn window_values(string: &[u8], rule: &Rule) -> Vec<u64> {
 }
 
 /// The base-257 remainder one place further on: "a step sees only w, the value before, the byte that
-/// leaves and the byte that enters" (document 02, request 4).
+/// leaves and the byte that enters" (document 02, request 4), each as its entry: "Request 4's running value now runs
+/// over table entries." (request 12)
 ///
-/// With one digit more, each digit counts 257 times as much as before. The byte that leaves has come
+/// With one digit more, each digit counts 257 times as much as before. The entry that leaves has come
 /// to count 257^w, and that is taken away. A window of 12 bytes stays far within 128 bits.
-pub fn slide(window: usize, before: u64, leaves: u8, enters: u8) -> u64 {
+pub fn slide(window: usize, before: u64, leaves: u64, enters: u64) -> u64 {
     let leaving = i128::from(leaves) * BASE.pow(window as u32);
     let number = i128::from(before) * BASE + i128::from(enters) - leaving;
     number.rem_euclid(PRIME) as u64
@@ -64,7 +71,7 @@ pub fn running_remainders(string: &[u8], window: usize) -> Vec<u64> {
     let mut value = window_remainder(string, 0, window);
     let mut remainders = vec![value];
     for i in 0..string.len() - window {
-        value = slide(window, value, string[i], string[i + window]);
+        value = slide(window, value, entry(string[i]), entry(string[i + window]));
         remainders.push(value);
     }
     remainders

@@ -11,8 +11,8 @@ use crate::trail::{is_only_trail, multiset, number_of_order, pairs, MOST_NUMBER}
 use crate::tree::Node;
 use crate::word::Reference;
 
-/// "The opening's rule number becomes 2" (document 02, request 7).
-pub const RULE: u32 = 2;
+/// "The rule number becomes 3" (document 02, request 12).
+pub const RULE: u32 = 3;
 
 /// Writes the reply to the front of the buffer, and answers 2^32 and its bytes; or the number of the
 /// first question that has a no: 1 to 7, then 10, 11, 20.

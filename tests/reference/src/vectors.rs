@@ -62,7 +62,7 @@ pub const RULED: Settings = Settings {
 };
 
 /// The bytes of the shortest ruler with 4,096 nodes, which question 8 just allows, and those of one with too many.
-pub const FULL_RULER: usize = 7_939;
+pub const FULL_RULER: usize = 6_670;
 pub const LONG_RULER: usize = 9_000;
 
 /// w, p, L, M, kind, length of rulers that are cut. That of one byte more has 4,096 nodes too.
@@ -191,11 +191,11 @@ pub fn triangle(k: usize) -> usize {
     }
 }
 
-/// Byte i of a ruler: a mark at every 560th, 70th, 10th and 2nd byte, or what lies between marks.
+/// Byte i of a ruler: a mark at every 560th, 80th, 10th and 2nd byte, or what lies between marks.
 fn ruler_byte(i: usize) -> u8 {
-    let marks = [(560, 0), (70, 211), (10, 235), (2, 255)];
+    let marks = [(560, 98), (80, 249), (10, 215), (2, 122)];
     let mark = marks.into_iter().find(|(step, _)| i % step == 0);
-    mark.map_or(112, |(_, byte)| byte)
+    mark.map_or(230, |(_, byte)| byte)
 }
 
 /// The ruler of a length: the string of kind 6.

@@ -14,9 +14,10 @@ const TWO_LEVELS: Settings = Settings {
     nominal: 4,
 };
 
-/// 03 05 09 over and over. Values at level 1 are 0, 6 and 4 over and over, and a cut may be from 2 to 10: cuts 3, 6 and 9.
-/// At level 2 three bytes have no cut, and the last five have values 0, 2, 0, 0, so one at 2.
-const FOURTEEN: [u8; 14] = [3, 5, 9, 3, 5, 9, 3, 5, 9, 3, 5, 9, 3, 5];
+/// 04 02 05 over and over, with the entries 12,967, 33,572 and 20,453: their pairs are 24,520, 65,206 and 27,708 modulo
+/// 65,521. Values at level 1 are 0, 6 and 4 over and over, and a cut may be from 2 to 10: cuts 3, 6 and 9. At level 2
+/// three bytes have no cut, and the last five have values 0, 2, 0, 0, so one at 2.
+const FOURTEEN: [u8; 14] = [4, 2, 5, 4, 2, 5, 4, 2, 5, 4, 2, 5, 4, 2];
 
 /// Level, start, length, parent and place of the tree of fourteen bytes.
 const BY_HAND: [(u64, usize, usize, usize, usize); 10] = [

@@ -21,16 +21,16 @@ const SMALLEST: Settings = Settings {
 
 const WIDTH: u64 = 64;
 
-/// Two blocks: the first two bytes, and the other four.
+/// Two blocks: the first byte, and the other five.
 const SIX: [u8; 6] = [0x00, 0x03, 0x00, 0x00, 0x01, 0x00];
 
 /// Five blocks: four of two bytes each, a a b a, and the other three. Their pairs are those of a b a a and the
 /// other three too. In the first string a b a a comes after the true order, in the second before it.
-const FIRST_OF_TWO: [u8; 11] = [1, 255, 1, 255, 0, 0, 1, 255, 0, 0, 0];
-const SECOND_OF_TWO: [u8; 11] = [1, 255, 1, 255, 1, 0, 1, 255, 0, 0, 0];
+const FIRST_OF_TWO: [u8; 11] = [1, 0, 1, 0, 1, 3, 1, 0, 1, 0, 1];
+const SECOND_OF_TWO: [u8; 11] = [1, 3, 1, 3, 1, 0, 1, 3, 1, 0, 1];
 
-/// 01 ff and ff 01 have the values 0 and 3, so that the blocks are 01 ff, 01 ff, 01 ff and 01 ff 01.
-const TURNS: [u8; 9] = [1, 255, 1, 255, 1, 255, 1, 255, 1];
+/// 01 00 and 00 01 have the values 2 and 3, so that the blocks are 01 00, 01 00, 01 00 and 01 00 01.
+const TURNS: [u8; 9] = [1, 0, 1, 0, 1, 0, 1, 0, 1];
 
 fn memory(string: &[u8]) -> Lent {
     Lent {
@@ -132,9 +132,9 @@ fn refused_by(question: u64, (state, lent, output): (Receiver, Lent, Vec<u8>), m
 #[test]
 fn replies_over_six_bytes() {
     let lent = sender(&SIX);
-    let (root, left, right) = (block_id(&SIX), block_id(&SIX[..2]), block_id(&SIX[2..]));
+    let (root, left, right) = (block_id(&SIX), block_id(&SIX[..1]), block_id(&SIX[1..]));
     let opening = message(Body::Opening(Opening {
-        rule: 2,
+        rule: 3,
         window: 2,
         fan_out: 2,
         levels: 1,
@@ -148,10 +148,10 @@ fn replies_over_six_bytes() {
     // The list: the root's pair, then 0 and the left block, then the left block and the right one.
     let order = composition(root, None, &[(1, 1), (2, 1)]);
     assert_eq!(replied(&lent, &query(0, root)), order);
-    assert_eq!(replied(&lent, &query(1, left)), literal(1, left, &SIX[..2]));
+    assert_eq!(replied(&lent, &query(1, left)), literal(1, left, &SIX[..1]));
     assert_eq!(
         replied(&lent, &query(1, right)),
-        literal(1, right, &SIX[2..])
+        literal(1, right, &SIX[1..])
     );
     for (level, id) in [
         (1, root),
@@ -271,11 +271,11 @@ fn a_sender_asks_10_11_20() {
 fn a_node_outside_the_lent_string_is_passed_over() {
     let mut lent = sender(&SIX);
     lent.string.truncate(5);
-    let (root, left, right) = (block_id(&SIX), block_id(&SIX[..2]), block_id(&SIX[2..]));
+    let (root, left, right) = (block_id(&SIX), block_id(&SIX[..1]), block_id(&SIX[1..]));
     let none = |level, id| message(Body::None { level, id });
     assert_eq!(replied(&lent, &query(0, root)), none(0, root));
     assert_eq!(replied(&lent, &query(1, right)), none(1, right));
-    assert_eq!(replied(&lent, &query(1, left)), literal(1, left, &SIX[..2]));
+    assert_eq!(replied(&lent, &query(1, left)), literal(1, left, &SIX[..1]));
     let opening = parse(&replied(&lent, &message(Body::OpeningQuery))).expect("well formed");
     let Body::Opening(opening) = opening.body else {
         panic!("an opening query has an opening");
@@ -286,11 +286,11 @@ fn a_node_outside_the_lent_string_is_passed_over() {
 #[test]
 fn a_session_of_six_bytes() {
     let (mut state, mut lent, mut output) = composed();
-    let (left, right) = (block_id(&SIX[..2]), block_id(&SIX[2..]));
+    let (left, right) = (block_id(&SIX[..1]), block_id(&SIX[1..]));
     assert_eq!(lent.shingle_list(), sender(&SIX).shingle_list());
     for (id, block, answer) in [
-        (left, &SIX[..2], Answer::Waiting),
-        (right, &SIX[2..], Answer::Handed(6)),
+        (left, &SIX[..1], Answer::Waiting),
+        (right, &SIX[1..], Answer::Handed(6)),
     ] {
         let mut buffer = [170; 25];
         assert_eq!(write_query(&state, &lent, &mut buffer), ACCEPTED + 24);
@@ -301,13 +301,13 @@ fn a_session_of_six_bytes() {
     }
     assert_eq!(output, [0, 3, 0, 0, 1, 0, 9, 9]);
     assert_eq!(write_query(&state, &lent, &mut [0; 24]), 9);
-    refused_by(9, (state, lent, output), &literal(1, right, &SIX[2..]));
+    refused_by(9, (state, lent, output), &literal(1, right, &SIX[1..]));
 }
 
 #[test]
 fn own_blocks_of_any_level_are_copied() {
     // The sender's right block is the receiver's whole string.
-    let (mut state, mut lent) = receiver(&SIX[2..], 5);
+    let (mut state, mut lent) = receiver(&SIX[1..], 5);
     let mut output = vec![9; 6];
     let theirs = sender(&SIX);
     let opening = replied(&theirs, &message(Body::OpeningQuery));
@@ -320,7 +320,7 @@ fn own_blocks_of_any_level_are_copied() {
         take(&mut state, &mut lent, &order, &mut output),
         Answer::Waiting
     );
-    let left = literal(1, block_id(&SIX[..2]), &SIX[..2]);
+    let left = literal(1, block_id(&SIX[..1]), &SIX[..1]);
     assert_eq!(
         take(&mut state, &mut lent, &left, &mut output),
         Answer::Handed(6)
@@ -328,10 +328,10 @@ fn own_blocks_of_any_level_are_copied() {
     assert_eq!(output, SIX);
     // The sender's whole string is a block of the receiver's.
     let (mut state, mut lent) = receiver(&SIX, 5);
-    let opening = replied(&sender(&SIX[..2]), &message(Body::OpeningQuery));
+    let opening = replied(&sender(&SIX[..1]), &message(Body::OpeningQuery));
     assert_eq!(
         take(&mut state, &mut lent, &opening, &mut output),
-        Answer::Handed(2)
+        Answer::Handed(1)
     );
 }
 
@@ -366,7 +366,7 @@ fn a_session_number_is_taken_modulo_2_24() {
 #[test]
 fn question_9() {
     let (state, lent, output) = composed();
-    let reply = literal(1, block_id(&SIX[..2]), &SIX[..2]);
+    let reply = literal(1, block_id(&SIX[..1]), &SIX[..1]);
     let top = *state.pile.last().expect("two are pending");
     let with = |change: &dyn Fn(&mut Receiver)| {
         let mut state = state.clone();
@@ -393,13 +393,13 @@ fn question_9() {
 
 #[test]
 fn questions_10_and_11() {
-    let (left, right) = (block_id(&SIX[..2]), block_id(&SIX[2..]));
-    let reply = literal(1, left, &SIX[..2]);
+    let (left, right) = (block_id(&SIX[..1]), block_id(&SIX[1..]));
+    let reply = literal(1, left, &SIX[..1]);
     refused_by(10, composed(), &reply[..reply.len() - 4]);
     refused_by(10, composed(), &[]);
     refused_by(11, composed(), &query(1, left));
-    refused_by(11, composed(), &literal(0, left, &SIX[..2]));
-    refused_by(11, composed(), &literal(1, right, &SIX[2..]));
+    refused_by(11, composed(), &literal(0, left, &SIX[..1]));
+    refused_by(11, composed(), &literal(1, right, &SIX[1..]));
     let opening = replied(&sender(&SIX), &message(Body::OpeningQuery));
     refused_by(11, composed(), &opening);
     let (state, lent) = receiver(&SIX, 5);
@@ -436,14 +436,14 @@ fn a_receiver_meets_references_that_do_not_rise_by_10() {
         assert_eq!(answer, Answer::Refused(10));
         assert_eq!((&state, &lent, &output), (&before.0, &before.1, &before.2));
     }
-    let (left, right) = (block_id(&SIX[..2]), block_id(&SIX[2..]));
+    let (left, right) = (block_id(&SIX[..1]), block_id(&SIX[1..]));
     for (reply, answer) in [
         (
             replied(&sender(&SIX), &query(0, block_id(&SIX))),
             Answer::Waiting,
         ),
-        (literal(1, left, &SIX[..2]), Answer::Waiting),
-        (literal(1, right, &SIX[2..]), Answer::Handed(6)),
+        (literal(1, left, &SIX[..1]), Answer::Waiting),
+        (literal(1, right, &SIX[1..]), Answer::Handed(6)),
     ] {
         assert_eq!(take(&mut state, &mut lent, &reply, &mut output), answer);
     }
@@ -528,11 +528,11 @@ fn questions_12_to_14_of_an_opening() {
     refused_by(14, fresh(6), &other_opening(|o| o.cells[0][0] = 5));
 }
 
-/// "The opening's rule number becomes 2, and ends with rule 1 meet refusal 12." (document 02, request 7) Of an
-/// opening that has nothing else wrong, and of one that 13 and 14 would refuse: 12 comes first.
+/// "ends with rule 1 meet refusal 12" (document 02, request 7); "The rule number becomes 3, rule 2 meets refusal 12"
+/// (request 12). Of an opening that has nothing else wrong, and of one that 13 and 14 would refuse: 12 comes first.
 #[test]
-fn rules_that_are_not_2() {
-    for rule in [0, 1, 3, (1 << 28) - 1] {
+fn rules_that_are_not_3() {
+    for rule in [0, 1, 2, 4, (1 << 28) - 1] {
         let other = other_opening(|opening| opening.rule = rule);
         assert_eq!(rcds_message_type(&other), ACCEPTED + 3);
         let (mut state, mut lent) = receiver(&[0xff; 3], 5);
@@ -541,7 +541,7 @@ fn rules_that_are_not_2() {
             (opening.rule, opening.length, opening.cells[0][0]) = (rule, 65_537, 5);
         });
         refused_by(12, (state.clone(), lent.clone(), vec![9; 6]), &worse);
-        let own = other_opening(|opening| opening.rule = 2);
+        let own = other_opening(|opening| opening.rule = 3);
         let answer = take(&mut state, &mut lent, &own, &mut [9; 6]);
         assert_eq!(answer, Answer::Waiting);
     }
@@ -569,7 +569,7 @@ fn an_opening_refused_at_18_or_19_leaves_the_table() {
 
 #[test]
 fn questions_13_15_and_16_of_a_node_reply() {
-    let left = block_id(&SIX[..2]);
+    let left = block_id(&SIX[..1]);
     let none = message(Body::None { level: 1, id: left });
     let (mut state, lent, output) = composed();
     refused_by(16, (state.clone(), lent.clone(), output.clone()), &none);
@@ -580,7 +580,7 @@ fn questions_13_15_and_16_of_a_node_reply() {
     refused_by(13, (state.clone(), lent.clone(), vec![9; 70_000]), &none);
     (state.length, state.replies) = (6, 4_095);
     let (mut lent, mut output) = (lent, output);
-    let reply = literal(1, left, &SIX[..2]);
+    let reply = literal(1, left, &SIX[..1]);
     assert_eq!(
         take(&mut state, &mut lent, &reply, &mut output),
         Answer::Waiting
@@ -603,7 +603,7 @@ fn question_17() {
     refused(&[(1, 1), (2, 2)]);
     refused(&[(2, 1)]);
     // At level L.
-    let left = block_id(&SIX[..2]);
+    let left = block_id(&SIX[..1]);
     let reference = Reference { index: 1, count: 1 };
     let body = Body::Composition {
         level: 1,
@@ -717,18 +717,18 @@ fn sessions_of_two_trails() {
 
 #[test]
 fn questions_18_and_19_of_a_node_reply() {
-    let (left, right) = (block_id(&SIX[..2]), block_id(&SIX[2..]));
+    let (left, right) = (block_id(&SIX[..1]), block_id(&SIX[1..]));
     refused_by(18, composed(), &literal(1, left, &[1; 7]));
     let root = block_id(&SIX);
     refused_by(19, opened(), &literal(0, root, &SIX[..5]));
     refused_by(19, opened(), &literal(0, root, &[7; 6]));
     let (mut state, mut lent, mut output) = composed();
-    let reply = literal(1, left, &SIX[..2]);
+    let reply = literal(1, left, &SIX[..1]);
     assert_eq!(
         take(&mut state, &mut lent, &reply, &mut output),
         Answer::Waiting
     );
     // A byte that was built before is changed by the caller.
     output[0] ^= 1;
-    refused_by(19, (state, lent, output), &literal(1, right, &SIX[2..]));
+    refused_by(19, (state, lent, output), &literal(1, right, &SIX[1..]));
 }

@@ -1,4 +1,6 @@
-//! Document 01, "Checked by hand", by rule 2, and the published values of FNV-1a.
+//! Document 01, "Checked by hand", by rule 3: "the starred cases and printed tree are worked out again" (document 02,
+//! request 12). The entries that are read: 48,544 for 00, 56,030 for 01, 33,572 for 02, 41,058 for 03, 3,998 for ff.
+//! And the published values of FNV-1a.
 
 use reference::fnv::{block_id, fnv1a, fnv1a_from, BASIS};
 use reference::node_table;
@@ -42,34 +44,41 @@ fn every_level_has_its_own_distance_and_modulus() {
     assert_eq!(rules, [(512, 8_192), (64, 1_024), (8, 128), (1, 16)]);
 }
 
+/// 01 02: 56,030 × 257 + 33,572 = 14,433,282, which is 18,662 modulo 65,521 and so 2 modulo 4. ff ff: 3,998 × 257 +
+/// 3,998 = 1,031,484, which is 48,669 and so 1. 01 00 00: 01 00 leaves 33,634 of 14,448,254, and 33,634 × 257 + 48,544
+/// = 8,692,482 leaves 43,710.
 #[test]
 fn values_of_windows() {
     let rule = SMALLEST.rule(1);
-    assert_eq!(window_value(&[0x01, 0x02], 0, &rule), 3);
+    assert_eq!(window_value(&[0x01, 0x02], 0, &rule), 2);
     assert_eq!(window_value(&[0xff, 0xff], 0, &rule), 1);
-    assert_eq!(window_remainder(&[0x01, 0x00, 0x00], 0, 3), 528);
+    assert_eq!(window_remainder(&[0x01, 0x00, 0x00], 0, 3), 43_710);
 }
 
+/// 00 03 is 12,516,866, 03 00 is 10,600,450, 00 00 is 12,524,352, 00 01 is 12,531,838 and 01 00 is 14,448,254. Modulo
+/// 65,521 these are 2,355, 51,569, 9,841, 17,327 and 33,634; modulo 4 they are 3, 1, 1, 3 and 2. Of the two equal
+/// ones the first is the cut.
 #[test]
 fn six_bytes() {
     let string = [0x00, 0x03, 0x00, 0x00, 0x01, 0x00];
     let rule = SMALLEST.rule(1);
-    assert_eq!(window_values(&string, &rule), [3, 3, 0, 1, 1]);
-    assert_eq!(cuts(&string, &rule), [2]);
+    assert_eq!(window_values(&string, &rule), [3, 1, 1, 3, 2]);
+    assert_eq!(cuts(&string, &rule), [1]);
     let expected = [
         Block {
             start: 0,
-            length: 2,
+            length: 1,
         },
         Block {
-            start: 2,
-            length: 4,
+            start: 1,
+            length: 5,
         },
     ];
     assert_eq!(blocks(&string, &rule), expected);
     let nodes = tree(&SMALLEST, &string);
-    assert_eq!(places(&nodes), [(0, 0, 6), (1, 0, 2), (1, 2, 4)]);
-    assert_eq!(nodes[2].id, fnv1a(&string[2..]));
+    assert_eq!(places(&nodes), [(0, 0, 6), (1, 0, 1), (1, 1, 5)]);
+    // An id is that of the bytes, and not of their entries.
+    assert_eq!(nodes[2].id, fnv1a(&string[1..]));
 }
 
 /// "The starred four and five bytes 07 now have no cut." (document 02, request 7) "Three: none." "Empty: one
@@ -82,13 +91,13 @@ fn runs_of_07() {
     }
 }
 
-/// 01 ff has value 0 and ff 01 has value 3: 512, and 65,536 − 65,521 = 15, modulo 4. So cuts are 2, 4, 6 and so on,
-/// to three bytes before the end.
+/// 01 00 has value 2 and 00 01 has value 3, as in the six bytes. So cuts are 2, 4, 6 and so on, to three bytes before
+/// the end.
 #[test]
 fn no_more_than_31_cuts() {
     let rule = SMALLEST.rule(1);
-    let turns: Vec<u8> = [1, 255].into_iter().cycle().take(99).collect();
-    assert_eq!(window_values(&turns[..9], &rule), [0, 3, 0, 3, 0, 3, 0, 3]);
+    let turns: Vec<u8> = [1, 0].into_iter().cycle().take(99).collect();
+    assert_eq!(window_values(&turns[..9], &rule), [2, 3, 2, 3, 2, 3, 2, 3]);
     assert_eq!(cuts(&turns[..9], &rule), [2, 4, 6]);
     for (length, count) in [
         (8, 2),
@@ -182,18 +191,18 @@ fn the_table_is_zero_past_the_last_entry() {
     assert!(table[48..].iter().all(|&byte| byte == 0));
 }
 
-/// One byte less than the shortest has two nodes less, and three bytes more one node more.
+/// One byte less than the shortest has three nodes less, and four bytes more two nodes more.
 #[test]
 fn rulers_with_4096_nodes_and_with_more() {
     let mut table = vec![170; 65_536];
-    for (length, count) in [(FULL_RULER - 1, 4_094), (FULL_RULER, 4_096), (7_941, 4_096)] {
+    for (length, count) in [(FULL_RULER - 1, 4_093), (FULL_RULER, 4_096), (6_673, 4_096)] {
         assert_eq!(
             rcds_tree(&RULED, &ruler(length), &mut table),
             ACCEPTED + count
         );
         assert_eq!(node_table::read(&table).len() as u64, count);
     }
-    for (length, count) in [(7_942, 4_097), (LONG_RULER, 4_644), (65_536, 10_402)] {
+    for (length, count) in [(6_674, 4_098), (LONG_RULER, 5_528), (65_536, 12_402)] {
         let string = ruler(length);
         assert_eq!(tree(&RULED, &string).len(), count, "{length} bytes");
         table.fill(170);

@@ -1,4 +1,5 @@
-//! Change request 7, "Long runs of zero": rule 2, sentence by sentence, and the rules that it is not.
+//! Change request 7, "Long runs of zero", sentence by sentence, and the rules that it is not. Its comparison came with
+//! rule 2 and stays in rule 3. All values here are read by rule 3, so that rules differ in their comparisons alone.
 
 use reference::most_blocks::bound;
 use reference::partition::{
@@ -7,6 +8,7 @@ use reference::partition::{
 use reference::settings::{Rule, Settings};
 use reference::tree::tree;
 use reference::vectors::{string, SETTINGS};
+use std::ops::Range;
 
 /// How a value compares with each of the h before it and with each of the h after it.
 type Sides = [fn(u64, u64) -> bool; 2];
@@ -20,10 +22,10 @@ fn not_greater(value: u64, other: u64) -> bool {
 }
 
 /// "smaller than each of the h values before it and not greater than the h after it"
-const RULE_2: Sides = [smaller, not_greater];
+const REQUEST_7: Sides = [smaller, not_greater];
 
 /// "not greater than any value at distance 1 to h on either side" (document 01)
-const RULE_1: Sides = [not_greater, not_greater];
+const DOCUMENT_01: Sides = [not_greater, not_greater];
 
 /// Neither: smaller on both sides, and the two sides exchanged.
 const BOTH_SMALLER: Sides = [smaller, smaller];
@@ -124,28 +126,36 @@ fn the_sides_of_a_candidate() {
     assert!(is(&[4, 5, 5, 4, 5, 5, 3], 3, 2));
 }
 
-/// Values 3 3 0 0 3 3, of which 1 to 4 may be cuts: rule 2 takes the first of two equal ones, and no other rule does so
-/// alone.
+/// Values 1 3 0 0 2 1, of which 1 to 4 may be cuts: request 7 takes the first of two equal ones, and no other rule does
+/// so alone. 00 00 is 9,841 modulo 65,521, 00 01 is 17,327, 01 00 is 33,634, and 01 01 is 56,030 × 258 = 14,455,740,
+/// which is 41,120; modulo 4 they are 1, 3, 2 and 0.
 #[test]
 fn four_rules_by_hand() {
-    let string = [0, 3, 0, 0, 0, 3, 0];
-    assert_eq!(window_values(&string, &smallest()), [3, 3, 0, 0, 3, 3]);
+    let string = [0, 0, 1, 1, 1, 0, 0];
+    assert_eq!(window_values(&string, &smallest()), [1, 3, 0, 0, 2, 1]);
     assert_eq!(cuts(&string, &smallest()), [2]);
-    assert_eq!(cuts_by(&string, &smallest(), RULE_2), [2]);
-    assert_eq!(cuts_by(&string, &smallest(), RULE_1), [2, 3]);
+    assert_eq!(cuts_by(&string, &smallest(), REQUEST_7), [2]);
+    assert_eq!(cuts_by(&string, &smallest(), DOCUMENT_01), [2, 3]);
     assert_eq!(cuts_by(&string, &smallest(), BOTH_SMALLER), []);
     assert_eq!(cuts_by(&string, &smallest(), EXCHANGED), [3]);
 }
 
-/// The reference's cuts are those of rule 2, and those of each other rule in some string are not.
+/// The reference's cuts are those of request 7, and those of each other rule in some string are not.
 #[test]
 fn other_rules_cut_elsewhere() {
     let mut elsewhere = [0; 3];
     let all = [short_strings(&[0, 3, 255], 7), long_strings()].concat();
     for (string, rule) in &all {
         let cuts = cuts(string, rule);
-        assert_eq!(cuts, cuts_by(string, rule, RULE_2), "{rule:?}: {string:?}");
-        for (k, other) in [RULE_1, BOTH_SMALLER, EXCHANGED].into_iter().enumerate() {
+        assert_eq!(
+            cuts,
+            cuts_by(string, rule, REQUEST_7),
+            "{rule:?}: {string:?}"
+        );
+        for (k, other) in [DOCUMENT_01, BOTH_SMALLER, EXCHANGED]
+            .into_iter()
+            .enumerate()
+        {
             elsewhere[k] += usize::from(cuts != cuts_by(string, rule, other));
         }
     }
@@ -160,7 +170,7 @@ fn the_spacing_test_rejects_no_candidate() {
     let (mut closest, mut limited, mut rejected) = (0, 0, 0);
     let all = [short_strings(&[0, 1, 255], 8), long_strings()].concat();
     for (string, rule) in &all {
-        let found = candidates(string, rule, RULE_2);
+        let found = candidates(string, rule, REQUEST_7);
         let first: Vec<usize> = found.iter().copied().take(MOST_CUTS).collect();
         assert_eq!(cuts(string, rule), first, "{rule:?}: {string:?}");
         let apart = |pair: &[usize]| pair[1] - pair[0];
@@ -171,7 +181,7 @@ fn the_spacing_test_rejects_no_candidate() {
                 .any(|pair| apart(pair) == rule.distance + 1),
         );
         limited += usize::from(found.len() > MOST_CUTS);
-        let before = candidates(string, rule, RULE_1);
+        let before = candidates(string, rule, DOCUMENT_01);
         rejected += usize::from(spaced(&before, rule.distance).len() < before.len().min(MOST_CUTS));
     }
     assert!(
@@ -215,7 +225,7 @@ fn a_run_of_equal_bytes_is_one_block() {
                 };
                 assert_eq!(blocks(&run, &rule), [whole], "{n} bytes {byte}, {rule:?}");
                 if byte == 0 {
-                    let before = cuts_by(&run, &rule, RULE_1).len() as u64 + 1;
+                    let before = cuts_by(&run, &rule, DOCUMENT_01).len() as u64 + 1;
                     assert_eq!(before, most, "{n} zeros, {rule:?}");
                     reached_before += usize::from(most > 1);
                 }
@@ -243,15 +253,35 @@ fn trees_of_equal_bytes() {
     }
 }
 
-/// Another string than zeros may still reach the bound: nine bytes with w = 2 and h = 2, where 2 to 5 may be cuts.
+/// Another string than zeros may still reach the bound: nine bytes with w = 2 and h = 2, where 2 to 5 may be cuts. 00
+/// 01, 01 00 and 00 00 have values 3, 2 and 1, as in the six bytes that are checked by hand.
 #[test]
 fn nine_bytes_reach_the_bound() {
     let rule = rule(2, 2, 4);
     let string = [0, 1, 0, 0, 1, 0, 0, 1, 0];
-    assert_eq!(window_values(&string, &rule), [1, 1, 0, 1, 1, 0, 1, 1]);
+    assert_eq!(window_values(&string, &rule), [3, 2, 1, 3, 2, 1, 3, 2]);
     assert_eq!(cuts(&string, &rule), [2, 5]);
     assert_eq!(bound(9, 2, 2), 3);
     assert_eq!(blocks(&[0; 9], &rule).len(), 1);
+}
+
+/// The shortest strings that are cut at all, with w = 2: 4, 6 and 8 bytes for h of 1, 2 and 3, with room for one cut,
+/// at h. 00 00, 00 01, 01 00 and 01 01 have values 1, 3, 2 and 0.
+#[test]
+fn shortest_strings_that_reach_the_bound() {
+    let strings: [&[u8]; 3] = [
+        &[0, 1, 0, 1],
+        &[0, 0, 1, 1, 0, 0],
+        &[0, 0, 0, 1, 1, 0, 0, 0],
+    ];
+    let values: [&[u64]; 3] = [&[3, 2, 3], &[1, 3, 0, 2, 1], &[1, 1, 3, 0, 2, 1, 1]];
+    for (h, (string, values)) in (1..).zip(strings.into_iter().zip(values)) {
+        let (rule, n) = (rule(2, h, 4), string.len());
+        assert_eq!(window_values(string, &rule), values);
+        assert_eq!(cuts(string, &rule), [h]);
+        assert_eq!([n - 1, n].map(|n| bound(n as u64, 2, h as u64)), [1, 2]);
+        assert_eq!(cuts(&string[..n - 1], &rule), []);
+    }
 }
 
 /// A run of equal bytes between others, of every length from none to a few h: at most one of the windows inside it is a
@@ -282,11 +312,11 @@ fn runs_between_other_bytes() {
     assert!(with_a_cut > 20, "{with_a_cut} runs have a cut");
 }
 
-/// A preallocated file: samples, a run of zeros, and what another recording left.
-fn preallocated() -> (Vec<u8>, std::ops::Range<usize>) {
-    let (samples, zeros, rest) = (string(4, 1_000), vec![0; 3_000], string(2, 500));
-    let run = samples.len()..samples.len() + zeros.len();
-    ([samples, zeros, rest].concat(), run)
+/// A preallocated file: samples, a run of one byte, and what another recording left.
+fn preallocated(byte: u8) -> (Vec<u8>, Range<usize>) {
+    let (samples, equal, rest) = (string(4, 1_000), vec![byte; 3_000], string(2, 500));
+    let run = samples.len()..samples.len() + equal.len();
+    ([samples, equal, rest].concat(), run)
 }
 
 /// The cuts from a place on, so many bytes further on.
@@ -296,39 +326,59 @@ fn further(cuts: &[usize], from: usize, by: usize) -> Vec<usize> {
 }
 
 /// "cuts fall at fixed steps, and one inserted byte shifts them all": by rule 1 no cut of the rest of the run is where it
-/// was. By rule 2 every cut of the rest of the file moves with its bytes.
+/// was.
+fn shifted_by_rule_1(file: &[u8], run: &Range<usize>, rule: &Rule) {
+    let place = run.start + 700;
+    let mut longer = file.to_vec();
+    longer.insert(place, 1);
+    let [before, after] = [file, &longer].map(|file| cuts_by(file, rule, DOCUMENT_01));
+    let moved = further(&before, place + rule.distance, 1);
+    let inside = run.start..run.end - rule.window;
+    let of_run: Vec<usize> = moved
+        .into_iter()
+        .filter(|cut| inside.contains(cut))
+        .collect();
+    assert!(of_run.len() > 8, "the run had cuts: {of_run:?}");
+    assert!(of_run.iter().all(|cut| !after.contains(cut)));
+}
+
+/// By request 7 every cut of the rest of the file moves with its bytes.
 #[test]
 fn one_byte_inserted_into_a_preallocated_file() {
-    let (file, run) = preallocated();
     for (w, h) in [(2, 150), (3, 201), (12, 160)] {
         let rule = rule(w, h, 65_521);
-        let inserted_at = [
-            0,
-            1,
-            400,
-            run.start,
-            run.start + 700,
-            run.end - 1,
-            run.end + 40,
-        ];
-        for place in inserted_at {
-            let mut longer = file.clone();
-            longer.insert(place, 1);
-            let [before, after] = [&file, &longer].map(|file| cuts(file, &rule));
-            assert!(before.len() < MOST_CUTS && after.len() < MOST_CUTS);
-            assert_eq!(
-                further(&after, place + h + 1, 0),
-                further(&before, place + h, 1)
-            );
-            assert_eq!(before.iter().filter(|cut| run.contains(cut)).count(), 1);
+        for byte in [0, 1, 7, 170, 255] {
+            let (file, run) = preallocated(byte);
+            let before = cuts(&file, &rule);
+            let (first, last, later) = (run.start, run.end - 1, run.end + 40);
+            for place in [0, 1, 400, first, first + 700, last, later] {
+                let mut longer = file.clone();
+                longer.insert(place, 1);
+                let after = cuts(&longer, &rule);
+                assert!(before.len() < MOST_CUTS && after.len() < MOST_CUTS);
+                let rest = further(&after, place + h + 1, 0);
+                assert_eq!(rest, further(&before, place + h, 1));
+            }
+            shifted_by_rule_1(&file, &run, &rule);
         }
-        let mut longer = file.clone();
-        let place = run.start + 700;
-        longer.insert(place, 1);
-        let [before, after] = [&file, &longer].map(|file| cuts_by(file, &rule, RULE_1));
-        let moved = further(&before, place + h, 1);
-        let of_run: Vec<usize> = moved.into_iter().filter(|cut| run.contains(cut)).collect();
-        assert!(of_run.len() > 8, "the run had cuts: {of_run:?}");
-        assert!(of_run.iter().all(|cut| !after.contains(cut)));
     }
+}
+
+/// Of the windows inside the run only the first can be a cut. With entries in place of bytes it depends on the byte
+/// whether it is one: zeros have no longer the least value of all.
+#[test]
+fn the_run_of_a_preallocated_file() {
+    let mut with_a_cut = 0;
+    for (w, h) in [(2, 20), (3, 30), (12, 25)] {
+        let rule = rule(w, h, 65_521);
+        for byte in 0..=u8::MAX {
+            let (file, run) = preallocated(byte);
+            let inside = run.start..run.end - w + 1;
+            let mut of_run = cuts(&file, &rule);
+            of_run.retain(|cut| inside.contains(cut));
+            assert!(of_run.is_empty() || of_run == [run.start], "byte {byte}");
+            with_a_cut += usize::from(!of_run.is_empty());
+        }
+    }
+    assert!((10..700).contains(&with_a_cut), "{with_a_cut} runs");
 }

@@ -1,4 +1,4 @@
-//! Change request 6's bound, by hand, and strings that were searched for one that goes past it by rule 2: "Request 6's
+//! Change request 6's bound, by hand, and strings that were searched for one that goes past it by rule 3: "Request 6's
 //! bound still holds" (request 7). Blocks are counted by the reference's own cutting, which knows nothing of the bound.
 
 use reference::most_blocks::{bound, most_nodes};
@@ -155,7 +155,7 @@ fn bound_of(string: &[u8], window: usize, distance: usize) -> u64 {
     bound(string.len() as u64, window as u64, distance as u64)
 }
 
-/// The most blocks that cuts leave room for by rule 2: they are "h ≤ i ≤ n−w−h", and more than h apart, since of two
+/// The most blocks that cuts leave room for by rule 3: they are "h ≤ i ≤ n−w−h", and more than h apart, since of two
 /// positions within h the later one's value is smaller than the earlier one's, and the earlier one's not greater.
 fn room(n: usize, w: usize, h: usize) -> u64 {
     let Some(last) = n.checked_sub(w + 2 * h) else {

@@ -43,7 +43,7 @@ fn some(count: u64) -> Vec<Shingle> {
 #[test]
 fn shingles_of_six_bytes() {
     let string = [0x00, 0x03, 0x00, 0x00, 0x01, 0x00];
-    let (root, left, right) = (fnv1a(&string), fnv1a(&string[..2]), fnv1a(&string[2..]));
+    let (root, left, right) = (fnv1a(&string), fnv1a(&string[..1]), fnv1a(&string[1..]));
     let expected = [
         shingle(0, 0, root, 1),
         shingle(1, 0, left, 1),
@@ -54,10 +54,10 @@ fn shingles_of_six_bytes() {
 
 #[test]
 fn a_pair_is_counted_over_its_level() {
-    // 01 ff and ff 01 have the values 0 and 3, so that nine bytes are cut at 2, 4 and 6: the blocks are 01 ff, 01 ff,
-    // 01 ff and 01 ff 01.
-    let string = [1, 255, 1, 255, 1, 255, 1, 255, 1];
-    let (two, three) = (fnv1a(&[1, 255]), fnv1a(&[1, 255, 1]));
+    // 01 00 and 00 01 have the values 2 and 3, so that nine bytes are cut at 2, 4 and 6: the blocks are 01 00, 01 00,
+    // 01 00 and 01 00 01.
+    let string = [1, 0, 1, 0, 1, 0, 1, 0, 1];
+    let (two, three) = (fnv1a(&[1, 0]), fnv1a(&[1, 0, 1]));
     let list = shingles(&tree(&SMALLEST, &string));
     let mut expected = vec![
         shingle(1, 0, two, 1),

@@ -1,8 +1,9 @@
 //! Change request 4: "Show that each value equals document 01's." Windows that slide, compared with
-//! windows that are read afresh.
+//! windows that are read afresh. "Request 4's running value now runs over table entries." (request 12)
 
 use reference::partition::{running_remainders, slide, window_remainder, window_values};
 use reference::settings::Rule;
+use reference::spread::entry;
 use reference::vectors;
 use std::ops::RangeInclusive;
 
@@ -95,7 +96,9 @@ fn each_value_of_long_strings() {
     }
 }
 
-/// 255 at every place: it stands in the first window already, or enters later, and leaves or stays.
+/// 255 at every place among zeros: it stands in the first window already, or enters later, and leaves or stays. The
+/// windows that it is not in have the value of zeros, which is no longer 0, and the others have not: 255 and 0 have
+/// different entries, and no power of 257 is a multiple of 65,521.
 #[test]
 fn one_byte_that_enters_and_leaves() {
     for window in WINDOWS {
@@ -104,43 +107,59 @@ fn one_byte_that_enters_and_leaves() {
             let string = one_255(length, place);
             assert_equal(&string, window);
             let running = running_remainders(&string, window);
-            let outside = |&(i, _): &(usize, &u64)| !(i..i + window).contains(&place);
-            let without = running.iter().enumerate().filter(outside);
-            assert!(
-                without.clone().all(|(_, &value)| value == 0),
-                "w={window}, 255 at {place}"
-            );
-            assert!(without.count() > 0, "every window has the 255");
+            let zeros = window_remainder(&vec![0; window], 0, window);
+            let without = |value: &u64| *value == zeros;
+            let has_255 = |i: usize| (i..i + window).contains(&place);
+            let (with, others): (Vec<_>, Vec<_>) =
+                running.iter().enumerate().partition(|(i, _)| has_255(*i));
+            let about = format!("w={window}, 255 at {place}");
+            assert!(others.iter().all(|(_, value)| without(value)), "{about}");
+            assert!(!with.iter().any(|(_, value)| without(value)), "{about}");
+            assert!(!with.is_empty() && !others.is_empty(), "{about}");
         }
     }
 }
 
+/// The entries: 48,544 for 00, 56,030 for 01, 33,572 for 02, 41,058 for 03, 3,998 for ff.
 #[test]
 fn steps_worked_out_by_hand() {
-    // 01 02 is 1 × 257 + 2 = 259, and 02 03 is 2 × 257 + 3 = 517.
-    // 259 × 257 + 3 = 66,566, less 1 × 257^2 = 66,049, is 517.
-    assert_eq!(running_remainders(&[1, 2, 3], 2), [259, 517]);
-    assert_eq!(slide(2, 259, 1, 3), 517);
-    // 00 ff is 255. Then 255 × 257 + 255 = 65,790, and 65,790 − 65,521 = 269, which is 1 modulo 4: "ff
-    // ff has value 1".
-    assert_eq!(slide(2, 255, 0, 255), 269);
-    // ff 00 is 255 × 257 = 65,535, which is 14 modulo 65,521.
-    // 269 × 257 = 69,133, less 255 × 66,049 = 16,842,495, is −16,773,362 = 14 − 256 × 65,521.
-    assert_eq!(slide(2, 269, 255, 0), 14);
-    assert_eq!(running_remainders(&[0, 255, 255, 0], 2), [255, 269, 14]);
-    // 00 01 00 is 257. Then 257 × 257 = 66,049, which is 528: "w=3, before s: 01 00 00 gives 528".
-    // 528 × 257 = 135,696, less 1 × 257^3 = 16,974,593, is −16,838,897 = −257 × 65,521.
-    assert_eq!(running_remainders(&[0, 1, 0, 0, 0], 3), [257, 528, 0]);
+    // 01 02 is 56,030 × 257 + 33,572 = 14,433,282, which is 18,662 modulo 65,521, and 02 03 is 33,572 × 257 + 41,058 =
+    // 8,669,062, which is 20,290. 18,662 × 257 + 41,058 = 4,837,192, less 56,030 × 66,049 = 3,700,725,470, is
+    // −3,695,888,278 = 20,290 − 56,408 × 65,521.
+    assert_eq!(running_remainders(&[1, 2, 3], 2), [18_662, 20_290]);
+    assert_eq!(slide(2, 18_662, 56_030, 41_058), 20_290);
+    // 00 ff is 48,544 × 257 + 3,998 = 12,479,806, which is 30,816. Then 30,816 × 257 + 3,998 = 7,923,710, less 48,544 ×
+    // 66,049 = 3,206,282,656, is −3,198,358,946 = 48,669 − 48,815 × 65,521, which is 1 modulo 4: ff ff has value 1.
+    assert_eq!(slide(2, 30_816, 48_544, 3_998), 48_669);
+    // ff 00 is 3,998 × 257 + 48,544 = 1,076,030, which is 27,694.
+    assert_eq!(slide(2, 48_669, 3_998, 48_544), 27_694);
+    let turn = running_remainders(&[0, 255, 255, 0], 2);
+    assert_eq!(turn, [30_816, 48_669, 27_694]);
+    // 00 01 00 is 17,327 × 257 + 48,544 = 4,501,583, which is 46,155; 01 00 00 is 43,710; 00 00 00 is 9,841 × 257 +
+    // 48,544 = 2,577,681, which is 22,362.
+    let single = running_remainders(&[0, 1, 0, 0, 0], 3);
+    assert_eq!(single, [46_155, 43_710, 22_362]);
 }
 
-/// The largest byte leaves, windows too short to be allowed included. With what was taken away, the
+/// A step takes entries, and so more than any byte: the step over the bytes themselves leads elsewhere.
+#[test]
+fn a_step_over_bytes_is_another() {
+    for (window, leaves, enters) in [(2, 1, 3), (3, 255, 0), (12, 0, 7)] {
+        let over_entries = slide(window, 18_662, entry(leaves), entry(enters));
+        let over_bytes = slide(window, 18_662, u64::from(leaves), u64::from(enters));
+        assert_ne!(over_entries, over_bytes, "w={window}, {leaves}, {enters}");
+    }
+}
+
+/// The largest entry leaves, windows too short to be allowed included. With what was taken away, the
 /// remainder is a multiple of 65,521.
 #[test]
 fn no_window_is_too_long_for_a_step() {
+    let largest = (0..=u8::MAX).map(entry).max().expect("256 entries");
     for window in 0..=*WINDOWS.end() {
-        let after = u128::from(slide(window, 0, u8::MAX, 0));
+        let after = u128::from(slide(window, 0, largest, 0));
         assert!(after < PRIME, "w={window}");
-        let leaving = u128::from(u8::MAX) * BASE.pow(window as u32);
+        let leaving = u128::from(largest) * BASE.pow(window as u32);
         assert_eq!((after + leaving) % PRIME, 0, "w={window}");
     }
 }

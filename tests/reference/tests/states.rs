@@ -142,7 +142,7 @@ fn any_bytes_are_a_state() {
 fn a_session_of_six_bytes() {
     let (mut state, mut lent) = receiver(&[0xff; 3], 5);
     let mut output = vec![9; 8];
-    let [root, left, right] = [&SIX[..], &SIX[..2], &SIX[2..]].map(block_id);
+    let [root, left, right] = [&SIX[..], &SIX[..1], &SIX[1..]].map(block_id);
     let mut take = |state: &mut [u8], output: &mut [u8]| {
         let reply = replied(&SIX, &query(state, &lent));
         rcds_take(state, &mut lent, &reply, output)
@@ -159,7 +159,7 @@ fn a_session_of_six_bytes() {
 
     assert_eq!(take(&mut state, &mut output), 0);
     let header: Vec<u64> = (6..14).map(|k| row(&state, k)).collect();
-    assert_eq!(header, [1, 6, root, 2, 2, 1, 1, right]);
+    assert_eq!(header, [1, 6, root, 1, 2, 1, 1, right]);
 
     assert_eq!(take(&mut state, &mut output), ACCEPTED + 6);
     assert_eq!(output, [0, 3, 0, 0, 1, 0, 9, 9]);

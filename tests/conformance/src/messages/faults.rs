@@ -49,7 +49,7 @@ const WHOLE_CELLS_ANY_NUMBER: u8 = 36;
 const WIDTH_16_BITS: u8 = 37;
 const WIDTH_65: u8 = 38;
 const WIDTH_0_REFUSED: u8 = 39;
-const RULE_1_ONLY: u8 = 40;
+const RULE_3_ONLY: u8 = 40;
 const TRAILING_WORD: u8 = 41;
 const TRAILING_BYTES: u8 = 42;
 const TYPE_7: u8 = 43;
@@ -82,6 +82,7 @@ const OMITTED_ONE_REFERENCE_REFUSED: u8 = 69;
 const FIRST_WORD_TAKEN_FOR_A_NUMBER: u8 = 70;
 const FIRST_TWO_NOT_COMPARED_WHEN_OMITTED: u8 = 71;
 const FIRST_REFERENCE_NOT_LOOKED_AT_WHEN_OMITTED: u8 = 72;
+const RULE_2_REFUSED: u8 = 73;
 
 /// The words of a message, with the fault of the function that reads them.
 struct Words {
@@ -140,7 +141,8 @@ impl Words {
             WIDTH_16_BITS => more == 45 * (width % 65_536),
             WIDTH_65 => more == 45 * width && width < 65,
             WIDTH_0_REFUSED => more == 45 * width && width > 0,
-            RULE_1_ONLY => more == 45 * width && self.rest(1) == 1,
+            RULE_3_ONLY => more == 45 * width && self.rest(1) == 3,
+            RULE_2_REFUSED => more == 45 * width && self.rest(1) != 2,
             _ => more == 45 * width,
         };
         right
@@ -376,7 +378,7 @@ fn every_fault_is_found() {
         INDEX_LOW_8_BITS INDEX_LOW_11_BITS NEXT_INDEX_12_BITS FIRST_TWO_COMPARED
         LAST_REFERENCE_NOT_COMPARED FALLING_ASKED RISING_BY_1 FIRST_INDEX_0 INDEX_0_REFUSED
         LAST_INDEX_REFUSED ONE_CELL_FEWER ONE_CELL_MORE WHOLE_CELLS_ANY_NUMBER WIDTH_16_BITS
-        WIDTH_65 WIDTH_0_REFUSED RULE_1_ONLY TRAILING_WORD TRAILING_BYTES TYPE_7 TYPE_0 TYPE_3_BITS
+        WIDTH_65 WIDTH_0_REFUSED RULE_3_ONLY RULE_2_REFUSED TRAILING_WORD TRAILING_BYTES TYPE_7 TYPE_0 TYPE_3_BITS
         SESSION_0_REFUSED NUMBER_4096_REFUSED LEVEL_5_REFUSED NO_REFERENCE_REFUSED NO_BYTES_REFUSED
         LONG_LITERAL_REFUSED NUMBER_FOR_A_PART NUMBER_KIND_NOT_ASKED KIND_3_BITS LOW_BYTE_FIRST
         EMPTY_ACCEPTED NONE_AS_A_QUERY MESSAGE_CHANGED PAST_THE_MESSAGE REFUSED_BY_11

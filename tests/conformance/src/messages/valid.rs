@@ -94,7 +94,7 @@ fn value(random: &mut Random) -> u64 {
 }
 
 fn opening(width: u64, random: &mut Random) -> Opening {
-    let rule = random.one_of(&[2, 2, 2, 0, 1, 3, (1 << 28) - 1]);
+    let rule = random.one_of(&[3, 3, 3, 0, 1, 2, 4, (1 << 28) - 1]);
     Opening {
         rule,
         window: number(12, random),

@@ -11,8 +11,9 @@ use crate::settings::{any_allowed, any_length};
 use crate::tree::Tree;
 use reference::most_blocks::bound;
 use reference::node_table;
+use reference::partition::window_value;
 use reference::rcds::ACCEPTED;
-use reference::settings::Settings;
+use reference::settings::{Rule, Settings};
 use reference::tree::Node;
 use reference::vectors::{ruler, FULL_RULER, LONG_RULER, RULED};
 
@@ -20,7 +21,7 @@ use reference::vectors::{ruler, FULL_RULER, LONG_RULER, RULED};
 #[derive(Clone, Copy, Debug, PartialEq, Eq)]
 pub enum Text {
     Of(Content),
-    /// Any bytes, and at every place of so many a window of zeros, whose value is the least.
+    /// Any bytes, and at every place of so many a window of the byte whose runs have the least value.
     Spaced(u64),
     /// So many bytes over and over.
     Period(u64),
@@ -108,7 +109,7 @@ fn cutting(settings: Settings, n: usize, place: usize, random: &mut Random) -> C
     };
     let string = match text {
         Text::Of(content) => content::string(content, n, random),
-        Text::Spaced(distance) => spaced(distance as usize, settings.window as usize, n, random),
+        Text::Spaced(distance) => spaced(distance as usize, &settings.rule(1), n, random),
         Text::Period(length) => {
             let bytes = random.bytes(length as usize);
             bytes.iter().copied().cycle().take(n).collect()
@@ -121,11 +122,17 @@ fn cutting(settings: Settings, n: usize, place: usize, random: &mut Random) -> C
     }
 }
 
-fn spaced(distance: usize, window: usize, n: usize, random: &mut Random) -> Vec<u8> {
-    let mut string = random.bytes(n);
+/// The byte whose runs have the least value: with entries in place of bytes it is seldom 0.
+fn lowest(rule: &Rule) -> u8 {
+    let value = |&byte: &u8| window_value(&vec![byte; rule.window], 0, rule);
+    (0..=u8::MAX).min_by_key(value).expect("256 bytes")
+}
+
+fn spaced(distance: usize, rule: &Rule, n: usize, random: &mut Random) -> Vec<u8> {
+    let (mut string, byte) = (random.bytes(n), lowest(rule));
     for start in (0..n).step_by(distance) {
-        let end = n.min(start + window);
-        string[start..end].fill(0);
+        let end = n.min(start + rule.window);
+        string[start..end].fill(byte);
     }
     string
 }

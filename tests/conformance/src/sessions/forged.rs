@@ -98,8 +98,8 @@ pub fn forgeries() -> impl Iterator<Item = Forgery> {
 /// The largest number of 28 bits.
 const LARGEST: u32 = (1 << 28) - 1;
 
-/// Rules that are not 2: the smallest number, the two beside it, and the largest.
-pub const OTHER_RULES: [u32; 4] = [0, 1, 3, LARGEST];
+/// Rules that are not 3: the smallest number, those of the rules before, the next, and the largest.
+pub const OTHER_RULES: [u32; 5] = [0, 1, 2, 4, LARGEST];
 
 const DAMAGES: [Damage; 9] = [
     Damage::Bits,

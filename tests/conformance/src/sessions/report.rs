@@ -121,7 +121,7 @@ impl fmt::Display for Report {
             .map(|(family, [sessions, handed])| format!("{family:?} {sessions} and {handed}"));
         write!(
             f,
-            "{} sessions, {calls} calls; handed over {} strings ({} the sender's, {} by the opening alone, the longest of {} bytes); at most {} replies accepted and {} nodes pending; accepted types {}; literals above the last level {}, empty {}; compositions: {}; taken over altered memory {} and altered states {}; refused by one condition alone: {}; openings met by 12 for their rule alone {}, of them of rule 1 {}; compositions not rising, met by 10 at every call: {}, and accepted right after {}; in other forms: {}, and accepted right after {}; pieces lent as null and in one memory: {}; sessions and hand-overs of each family: {}; forged messages, accepted and refused: {}",
+            "{} sessions, {calls} calls; handed over {} strings ({} the sender's, {} by the opening alone, the longest of {} bytes); at most {} replies accepted and {} nodes pending; accepted types {}; literals above the last level {}, empty {}; compositions: {}; taken over altered memory {} and altered states {}; refused by one condition alone: {}; openings met by 12 for their rule alone {}, of them of rule 2 {}; compositions not rising, met by 10 at every call: {}, and accepted right after {}; in other forms: {}, and accepted right after {}; pieces lent as null and in one memory: {}; sessions and hand-overs of each family: {}; forged messages, accepted and refused: {}",
             self.sessions,
             counts.of(Call::Take, ACCEPTED),
             counts.senders_string,
@@ -137,7 +137,7 @@ impl fmt::Display for Report {
             counts.altered_states,
             each(&counts.alone),
             counts.rules.values().sum::<usize>(),
-            counts.rules[&1],
+            counts.rules[&2],
             each(&counts.not_rising),
             counts.accepted_after,
             each(&counts.other_forms),

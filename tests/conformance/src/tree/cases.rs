@@ -1,5 +1,6 @@
 //! The cases: settings, string and table size, each made from the seed and the case's number alone.
 
+use super::entries;
 use super::runs::{self, LONGEST_DISTANCE, RUNS};
 use crate::content::{self, Content, KINDS};
 use crate::failure::first_bytes;
@@ -48,8 +49,8 @@ const TABLE: usize = 65_536;
 /// The longest string that question 6 allows.
 const LONGEST: usize = 65_536;
 
-/// A ruler of this length has 4,096 nodes, and so have those of one and two bytes more. The first of the lengths around it,
-/// those around which random strings have as many, and how many lengths there are of each.
+/// A ruler of this length has 4,096 nodes, and so have those of one to three bytes more. The first of the lengths around
+/// it, those around which random strings have as many, and how many lengths there are of each.
 const FULL: usize = FULL_RULER;
 const LIMIT_FROM: usize = FULL_RULER - 29;
 const RANDOM_LIMIT_FROM: usize = 10_200;
@@ -57,7 +58,7 @@ const RANDOM_LIMIT_STEP: usize = 8;
 const LIMIT_LENGTHS: usize = 60;
 
 /// The families of cases, and how many cases each has.
-const FAMILIES: [(Family, usize); 11] = [
+const FAMILIES: [(Family, usize); 12] = [
     (Family::Full, 40),
     (Family::AtTheLimit, 4 * LIMIT_LENGTHS),
     (Family::EdgeSettings, 8 * 8 * 8 * NOMINALS),
@@ -65,6 +66,7 @@ const FAMILIES: [(Family, usize); 11] = [
     (Family::TableSizes, 1_500),
     (Family::AllSettings, 11 * 7 * 4 * 45),
     (Family::Runs, 11 * LONGEST_DISTANCE * RUNS),
+    (Family::Entries, entries::CASES),
     (Family::ManyNodes, 100),
     (Family::TooLong, 100),
     (Family::Middle, 1_500),
@@ -87,6 +89,8 @@ enum Family {
     AllSettings,
     /// A run of equal bytes at the start, at the end, in the middle of others or alone, from none to a few h and w long.
     Runs,
+    /// Each byte value in short strings that have it often.
+    Entries,
     /// Long strings of many blocks with large p and L, which question 8 may refuse.
     ManyNodes,
     /// Strings of more than 65,536 bytes.
@@ -106,6 +110,16 @@ pub fn count() -> usize {
 pub fn case(seed: u64, number: usize) -> Case {
     let (family, place) = family_of(FAMILIES, number);
     family_case(family, place, seed, number)
+}
+
+/// The cases of entries, each with the byte value that is often in its string.
+#[cfg(test)]
+pub fn of_entries(seed: u64) -> Vec<(u8, Case)> {
+    let of_number = |number: usize| match family_of(FAMILIES, number) {
+        (Family::Entries, place) => Some((entries::byte(place), case(seed, number))),
+        _ => None,
+    };
+    (0..count()).filter_map(of_number).collect()
 }
 
 fn family_case(family: Family, place: usize, seed: u64, number: usize) -> Case {
@@ -140,6 +154,7 @@ fn settings(family: Family, place: usize, random: &mut Random) -> Settings {
         }
         Family::ManyNodes => many_nodes(random),
         Family::Runs => runs::settings(place, random),
+        Family::Entries => entries::settings(place, random),
         Family::TableSizes | Family::TooLong | Family::Middle | Family::Long => any_allowed(random),
     }
 }
@@ -154,7 +169,8 @@ fn content_and_string(
     let content = content(family, place, random);
     let length = match family {
         Family::Runs => return (content, runs::string(settings, place, random)),
-        Family::Full => FULL + place % 3,
+        Family::Entries => return (content, entries::string(place, random)),
+        Family::Full => FULL + place % 4,
         Family::AtTheLimit if place < LIMIT_LENGTHS => LIMIT_FROM + place,
         Family::AtTheLimit => RANDOM_LIMIT_FROM + RANDOM_LIMIT_STEP * (place % LIMIT_LENGTHS),
         Family::TooLong => random.one_of(&[LONGEST + 1, LONGEST + 2, 70_000, 131_072, 200_000]),
@@ -172,6 +188,7 @@ fn content_and_string(
 fn content(family: Family, place: usize, random: &mut Random) -> Content {
     match family {
         Family::Runs => Content::Runs,
+        Family::Entries => Content::OneOften,
         Family::Full => Content::Ruler,
         Family::AtTheLimit if place < LIMIT_LENGTHS => Content::Ruler,
         Family::AtTheLimit => Content::Random,

@@ -1,16 +1,17 @@
 //! The comparison tested: one function that is right, some that are right too, with windows that slide or with other
 //! distances between cuts than h, which rejects no candidate, and many that are wrong in one place each. Every wrong one
-//! must be found, and the right ones must pass an eighth of the cases.
+//! must be found, each wrong entry of the table among them, and the right ones must pass an eighth of the cases.
 
-use super::cases::count;
-use super::compare::Tree;
+use super::cases::{count, of_entries, Case};
+use super::compare::{compare, Tree};
 use super::report::run;
 use super::sliding::*;
+use super::spread::*;
 use crate::lent::{part, part_mut};
 use reference::fnv::{block_id, fnv1a};
 
 const NONE: u8 = 0;
-/// "not greater than any value at distance 1 to h on either side"
+/// "not greater than any value at distance 1 to h on either side", of values by rule 3.
 const RULE_1: u8 = 1;
 const SMALLER_ON_BOTH_SIDES: u8 = 2;
 const NEARER_NEIGHBOURS: u8 = 3;
@@ -72,12 +73,18 @@ const RULE_1_AT_THE_TOP: u8 = 58;
 const RULE_1_BELOW: u8 = 59;
 const RULE_1_OF_ZEROS: u8 = 60;
 const ONE_CUT_FEWER: u8 = 61;
-const FIRST_CUT_ALONE_BY_RULE_2: u8 = 62;
+const FIRST_CUT_ALONE_BY_REQUEST_7: u8 = 62;
 
 // Right: cuts at least so far apart, which no candidate is too near for. Windows slide here too.
 const NO_SPACING: u8 = 100;
 const CUTS_NEARER: u8 = 101;
 const CUTS_FARTHER: u8 = 102;
+const EQUAL_WINDOWS_PASSED_OVER: u8 = 103;
+
+// Runs of equal bytes passed over too far, from too early on, or by too few bytes.
+const RUN_PASSED_ONE_TOO_FAR: u8 = 104;
+const RUN_PASSED_FROM_ITS_FIRST: u8 = 105;
+const EQUAL_BYTES_PASSED_OVER: u8 = 106;
 
 /// The parent that a node is listed under: its place in the table and its start; and of the node its
 /// place there.
@@ -108,7 +115,7 @@ impl Cutting<'_> {
     fn value(&self, bytes: &[u8], i: usize, s: u64) -> u64 {
         let window = &bytes[i..(i + self.w).min(bytes.len())];
         let base = if self.has(BASE_256) { 256 } else { 257 };
-        let digit = |number: u128, &byte: &u8| number * base + u128::from(byte);
+        let digit = |number: u128, &byte: &u8| number * base + u128::from(entry(byte));
         let number = if self.has(LAST_BYTE_HIGHEST) {
             window.iter().rev().fold(0, digit)
         } else {
@@ -122,10 +129,10 @@ impl Cutting<'_> {
 
     /// The values of a block's windows at every place, of bytes as far as they go; of windows that slide, those
     /// that end within the block.
-    fn values(&self, start: usize, length: usize, s: u64) -> Vec<u64> {
+    fn values(&self, start: usize, length: usize, level: u64, s: u64) -> Vec<u64> {
         if self.fault >= SLIDING {
             let windows = Windows {
-                fault: self.fault,
+                fault: fault_of(self.fault, level, self.w),
                 string: self.string,
                 w: self.w,
                 s,
@@ -159,7 +166,7 @@ impl Cutting<'_> {
             RULE_1_AT_THE_TOP => level > 1,
             RULE_1_BELOW => level == 1,
             RULE_1_OF_ZEROS => self.string.iter().any(|&byte| byte != 0),
-            FIRST_CUT_ALONE_BY_RULE_2 => first,
+            FIRST_CUT_ALONE_BY_REQUEST_7 => first,
             EQUAL_H_BEFORE_TAKEN => distance != h,
             EQUAL_BESIDE_TAKEN => distance != 1,
             EQUAL_BESIDE_ALONE_BARS => distance == 1,
@@ -208,6 +215,20 @@ impl Cutting<'_> {
         !(least..i).any(bars_before) && !(i + 1..=last).any(bars_after)
     }
 
+    /// Whether a place of the string is passed over for the equal bytes around it. A window with the same bytes as the one
+    /// just before has its value, so that no candidate is there; fewer equal bytes say nothing.
+    fn passed_over(&self, i: usize) -> bool {
+        let around = match self.fault {
+            EQUAL_WINDOWS_PASSED_OVER => i - 1..i + self.w,
+            RUN_PASSED_ONE_TOO_FAR => i - 1..i + self.w - 1,
+            RUN_PASSED_FROM_ITS_FIRST => i..i + self.w,
+            EQUAL_BYTES_PASSED_OVER => i - 1..i + 1,
+            _ => return false,
+        };
+        let first = self.string[around.start];
+        self.string[around].iter().all(|&byte| byte == first)
+    }
+
     /// How far the next cut is from the last one at least.
     fn spacing(&self, h: usize) -> usize {
         match self.fault {
@@ -228,7 +249,7 @@ impl Cutting<'_> {
         if self.has(NEXT_LEVELS_MODULUS) {
             s /= self.p;
         }
-        let values = self.values(start, length, s);
+        let values = self.values(start, length, level, s);
         let open = self.has(WINDOW_ENDS_EARLY) || self.has(WINDOWS_PAST_THE_CHILD);
         let barred = if open { 0 } else { self.w - 1 };
         let values = &values[..length.saturating_sub(barred)];
@@ -246,9 +267,10 @@ impl Cutting<'_> {
             if cuts.len() == most {
                 break;
             }
-            let start = cuts.last().map(|last| last + self.spacing(h));
-            if start.map_or(true, |start| i >= start)
-                && self.is_candidate(values, i, h, level, start)
+            let free = cuts.last().map(|last| last + self.spacing(h));
+            if free.map_or(true, |free| i >= free)
+                && self.is_candidate(values, i, h, level, free)
+                && !self.passed_over(start + i)
             {
                 cuts.push(i);
             }
@@ -283,10 +305,13 @@ impl Cutting<'_> {
     /// The rows of a node.
     fn node(&self, start: usize, length: usize, level: u64, under: Under) -> [u64; 2] {
         let bytes = &self.string[start..start + length];
-        let id = if self.has(ID_0_LEFT) {
-            fnv1a(bytes)
-        } else {
-            block_id(bytes)
+        let id = match self.fault {
+            ID_0_LEFT => fnv1a(bytes),
+            IDS_OF_ENTRIES => {
+                let low = |&byte: &u8| entry(byte) as u8;
+                block_id(&bytes.iter().map(low).collect::<Vec<u8>>())
+            }
+            _ => block_id(bytes),
         };
         let shown = level + u64::from(self.has(LEVEL_FROM_1));
         let place = if self.has(START_IN_THE_PARENT) {
@@ -463,10 +488,12 @@ fn the_right_function_passes() {
     }
 }
 
-/// "The spacing test no longer rejects any candidate" (document 02, request 7).
+/// "The spacing test no longer rejects any candidate" (document 02, request 7), and equal windows have none.
 #[test]
 fn the_right_function_passes_with_any_spacing() {
-    for (name, function) in functions! { NO_SPACING CUTS_NEARER CUTS_FARTHER } {
+    let functions =
+        functions! { NO_SPACING CUTS_NEARER CUTS_FARTHER EQUAL_WINDOWS_PASSED_OVER };
+    for (name, function) in functions {
         match run(SEED, count() / 8, function) {
             Ok(report) => report.assert_complete(),
             Err(failure) => panic!("{name}: {failure}"),
@@ -482,12 +509,32 @@ fn the_right_function_passes_with_windows_that_slide() {
     }
 }
 
+/// Each entry alone: wrong by one everywhere, where its byte leaves or where it does not, or exchanged with the next.
+/// The cases of that entry find it.
+#[test]
+fn every_wrong_entry_is_found() {
+    let functions = functions! {
+        ENTRY_WRONG ENTRY_WRONG_WHERE_IT_LEAVES ENTRY_WRONG_WHERE_IT_ENTERS ENTRY_AND_THE_NEXT_EXCHANGED
+    };
+    let cases = of_entries(SEED);
+    let passes = |(_, case): &(u8, Case)| compare(case, faulty::<SLIDING>).is_ok();
+    assert!(cases.iter().all(passes), "the right function passes");
+    for byte in 0..=u8::MAX {
+        WRONG.set(byte);
+        for (name, function) in functions {
+            let differs =
+                |(often, case): &(u8, Case)| *often == byte && compare(case, function).is_err();
+            assert!(cases.iter().any(differs), "{name}, entry {byte}, passed");
+        }
+    }
+}
+
 #[test]
 fn every_fault_is_found() {
     let functions = functions! {
         RULE_1 SMALLER_ON_BOTH_SIDES SIDES_EXCHANGED NOTHING_BEFORE NOTHING_AFTER EQUAL_H_BEFORE_TAKEN
         EQUAL_BESIDE_TAKEN EQUAL_BESIDE_ALONE_BARS EQUAL_H_AFTER_BARS NEARER_BEFORE FARTHER_BEFORE
-        RULE_1_WITHOUT_SPACING RULE_1_AT_THE_TOP RULE_1_BELOW RULE_1_OF_ZEROS FIRST_CUT_ALONE_BY_RULE_2
+        RULE_1_WITHOUT_SPACING RULE_1_AT_THE_TOP RULE_1_BELOW RULE_1_OF_ZEROS FIRST_CUT_ALONE_BY_REQUEST_7
         ONE_CUT_FEWER CUTS_2_FARTHER NEARER_NEIGHBOURS WINDOW_ENDS_EARLY ONE_CUT_MORE CHILDREN_FIRST LEVEL_FROM_1
         ID_0_LEFT NOT_CLEARED NOT_ZEROED_AT_8
         LEVELS_AFTER_NOMINAL DISTANCE_ROUNDED_UP NEXT_LEVELS_MODULUS LAST_BYTE_HIGHEST BASE_256
@@ -501,6 +548,12 @@ fn every_fault_is_found() {
         MODULO_S_RUNS_ON ENTERS_TOO_EARLY GOES_ON_FROM_THE_BLOCK_BEFORE TOO_MUCH_LEAVES_2
         TOO_MUCH_LEAVES_3 TOO_MUCH_LEAVES_4 TOO_MUCH_LEAVES_5 TOO_MUCH_LEAVES_6 TOO_MUCH_LEAVES_7
         TOO_MUCH_LEAVES_8 TOO_MUCH_LEAVES_9 TOO_MUCH_LEAVES_10 TOO_MUCH_LEAVES_11 TOO_MUCH_LEAVES_12
+        RULE_2 RULE_2_AT_THE_TOP RULE_2_BELOW RULE_2_OF_WINDOWS_OF_12 FIRST_WINDOW_NOT_SPREAD
+        LEAVES_NOT_SPREAD ENTERS_NOT_SPREAD LEAVES_SPREAD_TWICE SPREAD_TWICE FNV_1 FNV_OF_32_BITS
+        NO_BASIS TABLE_OF_IDS MODULO_65519 MODULO_65536 MODULO_65537 DIGITS_OF_BASE_257 LOW_BYTES
+        ENTRIES_SIGNED TABLE_FROM_1 TABLE_FROM_THE_LAST SEVEN_BITS_OF_A_BYTE ZERO_NOT_SPREAD
+        ENTRIES_0_AND_255_EXCHANGED ENTRIES_127_AND_128_EXCHANGED IDS_OF_ENTRIES
+        RUN_PASSED_ONE_TOO_FAR RUN_PASSED_FROM_ITS_FIRST EQUAL_BYTES_PASSED_OVER
     };
     for (name, function) in functions {
         match run(SEED, count(), function) {

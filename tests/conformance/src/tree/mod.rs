@@ -2,6 +2,7 @@
 
 mod cases;
 mod compare;
+mod entries;
 mod report;
 mod runs;
 
@@ -9,6 +10,8 @@ mod runs;
 mod faults;
 #[cfg(test)]
 mod sliding;
+#[cfg(test)]
+mod spread;
 
 pub use cases::count;
 pub use compare::Tree;

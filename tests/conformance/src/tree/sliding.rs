@@ -1,6 +1,8 @@
 //! Windows of a block that slide: once right, and with one fault each. "keep the base-257 remainder as a running
 //! value; a step sees only w, the value before, the byte that leaves and the byte that enters" (document 02,
-//! request 4).
+//! request 4). "Request 4's running value now runs over table entries." (request 12)
+
+use super::spread::{number, Part};
 
 /// "a base-257 number", "modulo 65,521".
 const BASE: u64 = 257;
@@ -56,8 +58,10 @@ impl Windows<'_> {
                 ENTERS_TOO_EARLY => bytes[i + self.w - 1],
                 _ => bytes[i + self.w],
             };
-            let left = u64::from(leaves) * times % PRIME;
-            running = self.kept((BASE * running + PRIME - left + u64::from(enters)) % PRIME);
+            // Only entries that are not reduced wrap around.
+            let left = number(self.fault, Part::Leaves, leaves).wrapping_mul(times) % PRIME;
+            let entered = number(self.fault, Part::Enters, enters);
+            running = self.kept((BASE * running + PRIME - left).wrapping_add(entered) % PRIME);
             values.push(running % self.s);
         }
         values
@@ -69,7 +73,10 @@ impl Windows<'_> {
             GOES_ON_FROM_THE_BLOCK_BEFORE if start >= self.w => start - self.w,
             _ => start,
         };
-        let digit = |number: u64, &byte: &u8| (BASE * number + u64::from(byte)) % PRIME;
+        let digit = |value: u64, &byte: &u8| {
+            let first = number(self.fault, Part::First, byte);
+            (BASE * value).wrapping_add(first) % PRIME
+        };
         self.string[start..start + self.w].iter().fold(0, digit)
     }
 

@@ -16,7 +16,7 @@
 //!    - Then ten lines that are refused: kind 2 length 100 with the settings 1 2 1 2, 13 2 1 2,
 //!      2 1 1 2, 2 9 1 9, 2 2 0 2, 2 2 5 32, 2 2 1 1, 2 2 4 15, 2 2 1 65537; and kind 0 length
 //!      65537 with the settings 2 2 1 2.
-//!    - Then three lines with the settings 2 8 4 4096: kind 6 of the lengths 7939, 7940, 9000.
+//!    - Then three lines with the settings 2 8 4 4096: kind 6 of the lengths 6670, 6671, 9000.
 //! 4. `setup W P L M Q KIND LENGTH ANSWER NODES SHINGLES CELLS STATE`, 107 lines. ANSWER is the
 //!    answer of `rcds_sender_setup` with these settings over such a string, tables of 65,536, 98,304
 //!    and 7,680 bytes and a state of 48 bytes that are all 170 before the call. The other four are
@@ -25,7 +25,7 @@
 //!      63: for each length of 0, 6, 100, 4527, 20000, for each kind of 0, 2, 4, 5, a line.
 //!    - Then five lines that are refused: kind 2 length 100 with the settings 2 2 1 2 0, 2 2 1 2 65,
 //!      2 2 1 1 65; kind 0 length 65537 with the settings 2 2 1 2 64, 2 2 1 2 65.
-//!    - Then two lines with the settings 2 8 4 4096 63: kind 6 of the lengths 7939, 9000.
+//!    - Then two lines with the settings 2 8 4 4096 63: kind 6 of the lengths 6670, 9000.
 //! 5. `open W P L M Q KIND LENGTH ANSWER SHINGLES`, 103 lines. Two senders are set up with these settings,
 //!    each over tables and a state of zeros: for such a string, and for the same one with byte LENGTH / 2
 //!    one more, 0 after 255 (the empty string stays as it is). ANSWER is the answer of `rcds_sketch_open`
@@ -67,8 +67,8 @@
 //! - Kind 4: samples of two bytes, high byte first: byte 2k is v / 256 and byte 2k + 1 is v mod
 //!   256, where t = k mod 1000 and v = 8 × t if t < 500, else 8 × (1000 − t).
 //! - Kind 5: the first 37 random bytes, over and over: byte i is byte i − 37 from 37 on.
-//! - Kind 6: a ruler: byte i is 0 where 560 divides i, else 211 where 70 does, else 235 where 10 does, else
-//!   255 where 2 does, else 112.
+//! - Kind 6: a ruler: byte i is 98 where 560 divides i, else 249 where 80 does, else 215 where 10 does, else
+//!   122 where 2 does, else 230.
 
 use reference::vectors::{
     crossed_lines, fnv_lines, most_lines, opening_lines, setup_lines, strata_lines, tree_lines,

@@ -7,13 +7,13 @@ use Rattle.partition.proofs.scan.after_last.Statement.{statement}
 use Rattle.partition.proofs.scan.after_last.Tie as tie
 
 abbrev Inv-loop : tie.InvT-loop
-Inv-loop bytes window start m from to₀ to = Above (valueAt (window .width) (window .modulus) bytes) m to (start .at)
+Inv-loop bytes table window start m from to₀ to = Above (valueAt (window .width) (window .modulus) bytes) m to (start .at)
 
 abbrev μ-loop : tie.MeasureT-loop
-μ-loop bytes window start m from to₀ to = to
+μ-loop bytes table window start m from to₀ to = to
 
 returns : tie.Need-returns Inv-loop μ-loop
-returns c = last-near _ _ _ (c .before .before .if1 .taken) (omega (arith, c .before .before .before .before .before .pre .1 .1 .last))
+returns c = last-near _ _ _ (c .before .before .if1 .taken) (omega (arith, c .before .before .before .before .before .before .pre .1 .1 .1 .last))
 
 loop-holds : tie.Need-loop-holds Inv-loop μ-loop
 loop-holds c = above-none _ _ _
@@ -28,7 +28,9 @@ back-by-requires : tie.Need-back-by-requires Inv-loop μ-loop
 back-by-requires c κs = search needs
 
 after-last-low-requires : tie.Need-after-last-low-requires Inv-loop μ-loop
-after-last-low-requires c κs = search needs
+after-last-low-requires c κs =
+    let given = c .before .before .before .before .before .before .before .before .pre in
+    (given .0, (given .1 .0, omega arith))
 
 returns-2 : tie.Need-returns-2 Inv-loop μ-loop
 returns-2 c = stretch-found _ _ (c .before .before .before .before .before .loop .inv) (c .before .after-last-low .ensures) (omega arith) (c .if3 .taken)

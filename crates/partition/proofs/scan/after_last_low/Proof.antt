@@ -12,11 +12,11 @@ use Rattle.partition.proofs.scan.after_last_low.Statement.{statement}
 use Rattle.partition.proofs.scan.after_last_low.Tie as tie
 
 abbrev Inv-loop : tie.InvT-loop
-Inv-loop bytes window m from to x₀ r₀ j₀ x r j =
+Inv-loop bytes table window m from to x₀ r₀ j₀ x r j =
     AfterLastLow (valueAt (window .width) (window .modulus) bytes) m from j r × (j ≤ to) × Runs (window .width) bytes from j x
 
 abbrev μ-loop : tie.MeasureT-loop
-μ-loop bytes window m from to x₀ r₀ j₀ x r j = to - j
+μ-loop bytes table window m from to x₀ r₀ j₀ x r j = to - j
 
 returns : tie.Need-returns Inv-loop μ-loop
 returns c = last-none _ _ _ (c .if1 .taken)
@@ -25,7 +25,7 @@ add-number : tie.Need-add-number Inv-loop μ-loop
 add-number c = search needs
 
 number-requires : tie.Need-number-requires Inv-loop μ-loop
-number-requires c κs = search needs
+number-requires c κs = (c .before .before .before .before .pre .0, (omega arith, omega arith))
 
 loop-holds : tie.Need-loop-holds Inv-loop μ-loop
 loop-holds c = (last-none _ _ _ (omega arith), omega arith, runs-first (window-here _ _ _ (c .number .ensures)))
@@ -34,7 +34,7 @@ rem-value : tie.Need-rem-value Inv-loop μ-loop
 rem-value c = search needs
 
 next-requires : tie.Need-next-requires Inv-loop μ-loop
-next-requires c κs = (omega arith, runs-small (c .before .before .loop .inv .2))
+next-requires c κs = (c .before .before .before .before .before .before .before .before .pre .0, (omega arith, runs-small (c .before .before .loop .inv .2)))
 
 add-j : tie.Need-add-j Inv-loop μ-loop
 add-j c = search needs
@@ -45,7 +45,7 @@ loop-less c = search needs
 loop-again : tie.Need-loop-again Inv-loop μ-loop
 loop-again c =
     let s = c .before .before .before .before .loop in
-    let a = c .before .before .before .before .before .before .before .before .before .args in
+    let a = c .before .before .before .before .before .before .before .before .before .before .args in
     let e = runs-value (s .inv .2) (a .window .modulus) (omega arith) in
     (last-here _ _ _ (s .inv .0) (s .inv .2 .started) (omega (arith, e)), omega arith, runs-on (s .inv .2) (c .before .next .ensures))
 
@@ -55,13 +55,13 @@ loop-less-2 c = search needs
 loop-again-2 : tie.Need-loop-again-2 Inv-loop μ-loop
 loop-again-2 c =
     let s = c .before .before .before .before .loop in
-    let a = c .before .before .before .before .before .before .before .before .before .args in
+    let a = c .before .before .before .before .before .before .before .before .before .before .args in
     let e = runs-value (s .inv .2) (a .window .modulus) (omega arith) in
     (last-not _ _ _ (s .inv .0) (omega (arith, e)), omega arith, runs-on (s .inv .2) (c .before .next .ensures))
 
 returns-2 : tie.Need-returns-2 Inv-loop μ-loop
 returns-2 c =
-    let e : c .before .loop .j ≡ c .before .before .before .before .before .before .args .to = omega arith in
+    let e : c .before .loop .j ≡ c .before .before .before .before .before .before .before .args .to = omega arith in
     rw e at (c .before .loop .inv .0)
 
 pub after-last-low-spec : {M : Type 1} → statement M

@@ -11,22 +11,22 @@ use Rattle.partition.proofs.scan.first_low.Statement.{statement}
 use Rattle.partition.proofs.scan.first_low.Tie as tie
 
 abbrev Inv-loop : tie.InvT-loop
-Inv-loop bytes window h end x₀ value₀ at₀ j₀ x value at j =
+Inv-loop bytes table window h end x₀ value₀ at₀ j₀ x value at j =
     Falling (valueAt (window .width) (window .modulus) bytes) h at₀ at j
     × (at < end)
     × Runs (window .width) bytes at₀ j x
     × (value ≡ valueAt (window .width) (window .modulus) bytes at)
 
 abbrev μ-loop : tie.MeasureT-loop
-μ-loop bytes window h end x₀ value₀ at₀ j₀ x value at j = end + h - j
+μ-loop bytes table window h end x₀ value₀ at₀ j₀ x value at j = end + h - j
 
 rem-value : tie.Need-rem-value Inv-loop μ-loop
 rem-value c = search needs
 
 loop-holds : tie.Need-loop-holds Inv-loop μ-loop
 loop-holds c =
-    let a = c .before .before .args in
-    let runs = runs-first (c .before .before .pre .1 .0 .here) in
+    let a = c .before .before .before .args in
+    let runs = runs-first (c .before .before .before .pre .1 .1 .0 .here) in
     (falling-start _ _ _, omega arith, runs, runs-value runs (a .window .modulus) (omega arith))
 
 add-loop : tie.Need-add-loop Inv-loop μ-loop
@@ -36,7 +36,7 @@ returns : tie.Need-returns Inv-loop μ-loop
 returns c = low-zero _ _ _ _ (c .before .before .loop .inv .0) (c .before .before .loop .inv .3) (omega arith)
 
 next-requires : tie.Need-next-requires Inv-loop μ-loop
-next-requires c κs = (omega arith, runs-small (c .before .before .loop .inv .2))
+next-requires c κs = (c .before .before .before .before .before .before .pre .0, (omega arith, runs-small (c .before .before .loop .inv .2)))
 
 rem-next : tie.Need-rem-next Inv-loop μ-loop
 rem-next c = search needs
@@ -46,7 +46,7 @@ add-j c = search needs
 
 returns-2 : tie.Need-returns-2 Inv-loop μ-loop
 returns-2 c =
-    let a = c .before .before .before .before .before .before .before .before .before .args in
+    let a = c .before .before .before .before .before .before .before .before .before .before .args in
     let s = c .before .before .before .before .before .before .loop in
     let runs = runs-on (s .inv .2) (c .before .before .before .next .ensures) in
     let e = runs-value runs (a .window .modulus) (omega arith) in
@@ -57,7 +57,7 @@ loop-less c = search needs
 
 loop-again : tie.Need-loop-again Inv-loop μ-loop
 loop-again c =
-    let a = c .before .before .before .before .before .before .before .before .before .args in
+    let a = c .before .before .before .before .before .before .before .before .before .before .args in
     let s = c .before .before .before .before .before .before .loop in
     let runs = runs-on (s .inv .2) (c .before .before .before .next .ensures) in
     let e = runs-value runs (a .window .modulus) (omega arith) in
@@ -68,7 +68,7 @@ loop-less-2 c = search needs
 
 loop-again-2 : tie.Need-loop-again-2 Inv-loop μ-loop
 loop-again-2 c =
-    let a = c .before .before .before .before .before .before .before .before .args in
+    let a = c .before .before .before .before .before .before .before .before .before .args in
     let s = c .before .before .before .before .before .loop in
     let runs = runs-on (s .inv .2) (c .before .before .next .ensures) in
     let e = runs-value runs (a .window .modulus) (omega arith) in

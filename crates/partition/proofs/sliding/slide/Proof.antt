@@ -1,4 +1,4 @@
--- `slide` meets its contract: the two products are below 2^25, and the factor is the definition's.
+-- `slide` meets its contract: each product fits, and the factor is the definition's.
 use borrow.Author.Needs.{needs}
 use Prim.Native.Nat.{_+_, _*_}
 use native.Mathlib.Omega.{arith}
@@ -11,17 +11,17 @@ use Rattle.partition.proofs.sliding.slide.Tie as tie
 leaving-requires : tie.Need-leaving-requires
 leaving-requires c κs = search needs
 
+mul-left : tie.Need-mul-left
+mul-left c = omega (arith, product-small (c .before .args .old) (c .leaving .result) (omega arith) (omega arith))
+
 mul-result : tie.Need-mul-result
 mul-result c = search needs
 
 add-result : tie.Need-add-result
 add-result c = search needs
 
-mul-result-2 : tie.Need-mul-result-2
-mul-result-2 c = omega (arith, product-small (c .before .args .old) (c .leaving .result) (omega arith) (omega arith))
-
 add-result-2 : tie.Need-add-result-2
-add-result-2 c = omega (arith, product-small (c .before .args .old) (c .leaving .result) (omega arith) (omega arith))
+add-result-2 c = search needs
 
 returns : tie.Need-returns
 unfolding slid
@@ -30,4 +30,4 @@ returns c =
     omega (arith, early-factor (a .x * 257 + a .new) (a .old) (leavingOf (a .w)) (c .leaving .ensures))
 
 pub slide-spec : {M : Type 1} → statement M
-slide-spec = tie.close (tie.spec leaving-requires mul-result add-result mul-result-2 add-result-2 returns)
+slide-spec = tie.close (tie.spec leaving-requires mul-left mul-result add-result add-result-2 returns)

@@ -9,10 +9,10 @@ use Rattle.partition.proofs.start.carried.Statement.{statement}
 use Rattle.partition.proofs.start.carried.Tie as tie
 
 abbrev Inv-loop : tie.InvT-loop
-Inv-loop bytes w x j to number₀ i₀ number i = (i ≤ to) × Runs w bytes j i number
+Inv-loop bytes table w x j to number₀ i₀ number i = (i ≤ to) × Runs w bytes j i number
 
 abbrev μ-loop : tie.MeasureT-loop
-μ-loop bytes w x j to number₀ i₀ number i = to - i
+μ-loop bytes table w x j to number₀ i₀ number i = to - i
 
 sub-if1 : tie.Need-sub-if1 Inv-loop μ-loop
 sub-if1 c = search needs
@@ -21,7 +21,7 @@ add-number : tie.Need-add-number Inv-loop μ-loop
 add-number c = search needs
 
 number-requires : tie.Need-number-requires Inv-loop μ-loop
-number-requires c κs = search needs
+number-requires c κs = (c .before .before .before .pre .0, (omega arith, omega arith))
 
 returns : tie.Need-returns Inv-loop μ-loop
 returns c = window-here _ _ _ (c .number .ensures)
@@ -30,7 +30,7 @@ loop-holds : tie.Need-loop-holds Inv-loop μ-loop
 loop-holds c = (omega arith, runs-first (search needs))
 
 next-requires : tie.Need-next-requires Inv-loop μ-loop
-next-requires c κs = (omega arith, runs-small (c .before .loop .inv .1))
+next-requires c κs = (c .before .before .before .before .before .pre .0, (omega arith, runs-small (c .before .loop .inv .1)))
 
 add-i : tie.Need-add-i Inv-loop μ-loop
 add-i c = search needs
@@ -43,7 +43,7 @@ loop-again c = (omega arith, runs-on (c .before .before .loop .inv .1) (c .next 
 
 returns-2 : tie.Need-returns-2 Inv-loop μ-loop
 returns-2 c =
-    let e : c .before .loop .i ≡ c .before .before .before .before .args .to = omega arith in
+    let e : c .before .loop .i ≡ c .before .before .before .before .before .args .to = omega arith in
     rw e at (runs-number (c .before .loop .inv .1) (omega arith))
 
 pub carried-spec : {M : Type 1} → statement M

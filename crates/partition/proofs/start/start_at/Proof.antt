@@ -14,13 +14,13 @@ add-number : tie.Need-add-number
 add-number c = search needs
 
 number-requires : tie.Need-number-requires
-number-requires c κs = search needs
+number-requires c κs = (c .before .before .before .before .pre .0, (omega arith, omega arith))
 
 rem-value : tie.Need-rem-value
 rem-value c = search needs
 
 carried-requires : tie.Need-carried-requires
-carried-requires c κs = (omega arith, (omega arith, window-here _ _ _ (c .before .number .ensures)))
+carried-requires c κs = (c .before .before .before .before .before .before .pre .0, (omega arith, (omega arith, window-here _ _ _ (c .before .number .ensures))))
 
 returns : tie.Need-returns
 returns c =

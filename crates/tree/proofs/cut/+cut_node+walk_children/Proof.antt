@@ -2,7 +2,7 @@
 -- put the stretches together. The measure is 64 for each level left, and 1 for each child left.
 use borrow.Author.Needs.{needs}
 use Rattle.tree.proofs.Wrote.{after, stop, filled}
-use Rattle.tree.proofs.Walk.{tree-leaf, tree-more, walk-all, found-spread, ChildEnd, ends-at-cut, ends-with-node, walk-next, walk-last}
+use Rattle.tree.proofs.Walk.{tree-leaf, tree-more, walk-all, found-apart, ChildEnd, ends-at-cut, ends-with-node, walk-next, walk-last}
 use native.Mathlib.Omega.{arith}
 use mathlib.Core.Logic.{⊎-elim}
 use mathlib.Core.Path.{refl}
@@ -91,7 +91,7 @@ cut-node-walk-children-requires t c κs =
         few = found .few;
         counted = search needs;
         begun = search needs;
-        parted = found-spread _ _ _ _ _ _ found;
+        parted = found-apart _ _ _ _ _ _ found;
       },
     )
 

@@ -2,6 +2,7 @@
 
 use super::*;
 use reference::node_table;
+use reference::spread::entry;
 use reference::tree::Node;
 
 /// What the recursion carries.
@@ -66,7 +67,7 @@ impl Cutting<'_> {
     /// The values of the windows of a part, each of bytes as far as they go.
     fn values(&self, bytes: &[u8], s: u64) -> Vec<u64> {
         let window = self.settings.window as usize;
-        let digit = |number: u64, &byte: &u8| (number * 257 + u64::from(byte)) % 65_521;
+        let digit = |number: u64, &byte: &u8| (number * 257 + entry(byte)) % 65_521;
         let value = |i: usize| {
             let end = bytes.len().min(i + window);
             bytes[i..end].iter().fold(0, digit) % s

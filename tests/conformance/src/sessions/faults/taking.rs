@@ -192,6 +192,7 @@ fn refuse(
     match fault {
         NEVER_ZEROES => {}
         OTHER_RULE_NOT_ZEROED if question == 12 => {}
+        RULE_2_NOT_ZEROED if is_of_rule_2(body) => {}
         ZEROES_WHAT_IS_ANNOUNCED => output[..size].fill(0),
         ZEROES_WHAT_IS_BUILT => output[..size.min(before[BUILT] as usize)].fill(0),
         NONE_ONLY_REFUSED if question == 16 => return 16,
@@ -210,14 +211,20 @@ fn refuse(
     question
 }
 
+/// Whether it is an opening of the rule before.
+fn is_of_rule_2(body: &Body) -> bool {
+    matches!(body, Body::Opening(opening) if opening.rule == 2)
+}
+
 /// What an opening of another rule is answered that changes nothing; nothing where the answer is that of every other
 /// no at 12.
 fn other_rule(fault: u8, body: &Body) -> Option<u64> {
     match (fault, body) {
-        (_, Body::Opening(opening)) if opening.rule == 2 => None,
+        (_, Body::Opening(opening)) if opening.rule == 3 => None,
         (OTHER_RULE_BY_10, Body::Opening(_)) => Some(10),
         (OTHER_RULE_BY_11, Body::Opening(_)) => Some(11),
         (OTHER_RULE_NOT_ENDED, Body::Opening(_)) => Some(12),
+        (RULE_2_NOT_ENDED, Body::Opening(opening)) if opening.rule == 2 => Some(12),
         _ => None,
     }
 }
@@ -325,14 +332,17 @@ fn opened(fault: u8, rows: &[u64], lent: &Lent, opening: &Opening) -> Option<Vec
 fn is_taken(fault: u8, rule: u32) -> bool {
     match fault {
         RULE_NOT_ASKED => true,
-        RULE_1_TAKEN => [1, 2].contains(&rule),
+        RULE_0_TAKEN => [0, 3].contains(&rule),
+        RULE_1_TAKEN => [1, 3].contains(&rule),
         RULE_1_WANTED => rule == 1,
-        RULE_3_TAKEN => [2, 3].contains(&rule),
-        RULE_3_WANTED => rule == 3,
-        RULE_0_TAKEN => [0, 2].contains(&rule),
-        RULES_FROM_2_ON_TAKEN => rule >= 2,
-        RULE_LOW_BYTE => rule % 256 == 2,
-        _ => rule == 2,
+        RULE_2_TAKEN => [2, 3].contains(&rule),
+        RULE_2_WANTED => rule == 2,
+        RULE_4_TAKEN => [3, 4].contains(&rule),
+        RULE_4_WANTED => rule == 4,
+        RULES_TO_3_TAKEN => rule <= 3,
+        RULES_FROM_3_ON_TAKEN => rule >= 3,
+        RULE_LOW_BYTE => rule % 256 == 3,
+        _ => rule == 3,
     }
 }
 

@@ -52,7 +52,7 @@ pub enum Claim {
     DroppedGets17,
     /// The same of one that "carries one where only one does".
     AddedGets17,
-    /// "ends with rule 1 meet refusal 12", and so do those with any other number that is not 2.
+    /// "rule 2 meets refusal 12" (document 02, request 12), and so does any other number that is not 3.
     OtherRuleGets12,
 }
 

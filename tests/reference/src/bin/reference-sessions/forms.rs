@@ -14,8 +14,8 @@ use reference::word::Reference;
 /// The numbers that are put where none belongs: the first, the next, and the last that can be sent.
 const ADDED: [u32; 3] = [0, 1, 4_095];
 
-/// Rule numbers that are not 2: the smallest, the two beside it, and the largest that a word holds.
-pub const OTHER_RULES: [u32; 4] = [0, 1, 3, (1 << 28) - 1];
+/// Rule numbers that are not 3: the smallest, those of the rules before, the next, and the largest that a word holds.
+pub const OTHER_RULES: [u32; 5] = [0, 1, 2, 4, (1 << 28) - 1];
 
 /// The types of an opening and of a composition.
 const OPENING: u64 = 3;
@@ -90,7 +90,7 @@ fn other_rules(genuine: &[u8]) -> Vec<Vec<u8>> {
 }
 
 /// "A composition that omits the number where two trails exist, or carries one where only one does, fails
-/// question 17." "ends with rule 1 meet refusal 12."
+/// question 17." "rule 2 meets refusal 12"
 pub fn look_at_other_forms(run: &mut Run, sender: &SenderEnd, genuine: &[u8]) {
     for (claim, other) in other_forms(genuine) {
         look_at_end(run, sender, claim, &other, (17, COMPOSITION));

@@ -1,0 +1,2 @@
+-- The table's rule.
+pub mod Rule

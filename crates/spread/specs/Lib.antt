@@ -1,0 +1,2 @@
+-- The number that a byte is replaced by.
+pub mod Spreading
