@@ -8,7 +8,7 @@ use Rattle.spread.proofs.table.Tie as tie
 
 returns : tie.Need-returns
 unfolding spreadOf hashFrom hashStep
-returns c = spreads _ refl tt
+returns c = spreads _ refl refl
 
 pub table-spec : {M : Type 1} → statement M
 table-spec = tie.close (tie.spec returns)
