@@ -38,7 +38,7 @@ block_id_nonzero bytes = id_nonzero (hash_of bytes) (eqb (hash_of bytes) 0) refl
 pub hash_small : (h : ℕ) (bytes : List ℕ) → h < 18446744073709551616 → hash_onward h bytes < 18446744073709551616
 unfolding hash_onward next_hash
 hash_small h [] k = k
-hash_small h (b ∷ bytes) k = hash_small _ bytes (mod-lt _ (omega arith))
+hash_small h (b ∷ bytes) k = hash_small (next_hash h b) bytes (mod-lt _ (omega arith))
 
 id_small : (h : ℕ) (t : Bool) → h < 18446744073709551616 → cond t 1 h < 18446744073709551616
 id_small h true k = omega arith

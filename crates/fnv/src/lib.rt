@@ -1,4 +1,6 @@
 // FNV-1a with 64 bits over bytes, and the block id that it gives.
+#![tactic(auto)]
+
 ghost use Rattle.std.specs.Prelude.{◌≡◌};
 ghost use Rattle.fnv.specs.Fnv.{prime_multiple, next_hash, hash_onward, hash_of, id_of_block};
 

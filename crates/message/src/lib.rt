@@ -1,4 +1,6 @@
 // The words and messages of the link, read and written.
+#![tactic(auto)]
+
 mod field;
 pub mod reader;
 mod run;
@@ -6,7 +8,7 @@ mod word;
 
 // What reading some bytes answers. A message's cells, references and bytes stay where they are, from word `at` on. A composition that is not
 // `numbered` carries no trail number, and its `number` says nothing.
-#[derive(Drop)]
+#[derive(Clone, Copy)]
 pub enum Message {
     Bad,
     OpeningQuery {

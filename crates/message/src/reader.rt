@@ -226,7 +226,7 @@ pub fn message_type(message: &[u8]) -> u64
 }
 
 // A reference: an index of the sender's shingle list, and how often.
-#[derive(Drop)]
+#[derive(Clone, Copy)]
 pub struct Reference {
     pub index: u64,
     pub count: u64,

@@ -8,14 +8,14 @@ use crate::field::{is_number, is_value};
 use crate::word::{carries_one, carries_three, carries_two, is_reference, load, rest};
 
 // Where a run of references ends, if it rises by index.
-#[derive(Drop)]
+#[derive(Clone, Copy)]
 pub struct Run {
     pub sound: bool,
     pub end: usize,
 }
 
 // Where the words of a literal end, and how many bytes they carry.
-#[derive(Drop)]
+#[derive(Clone, Copy)]
 pub struct Text {
     pub end: usize,
     pub count: usize,

@@ -1,5 +1,7 @@
 // The six messages written into a lent buffer. Each call answers 2^32 and the number of bytes written, and leaves the bytes after them as they were;
 // or 20, question 20's number, where the message does not fit, and leaves the whole buffer as it was.
+#![tactic(auto)]
+
 mod put;
 
 ghost use Rattle.std.specs.Prelude.{◌≡◌, ◌*◌, min};

@@ -1,4 +1,6 @@
 // How many blocks one cutting gives at most. Document 02, requests 6 and 7.
+#![tactic(auto)]
+
 ghost use Rattle.std.specs.Prelude.{◌≡◌, ◌≤◌};
 ghost use Rattle.most_blocks.specs.Most.{most_blocks_of, in_range, most_answer};
 

@@ -1,4 +1,6 @@
 // A node table as any lent bytes say it: 16 bytes an entry, two rows of 64 bits. Where there is no such entry every answer is 0.
+#![tactic(auto)]
+
 mod search;
 
 ghost use Rattle.std.specs.Prelude.{◌≡◌};
@@ -7,7 +9,7 @@ ghost use Rattle.node_table.specs.Nodes.{entries_in, inside, place_of, sought};
 
 // What an entry says of a node: its id and level, where its bytes start and how many there are, the entry of its parent, and its
 // place among its siblings.
-#[derive(Drop)]
+#[derive(Clone, Copy)]
 pub struct Entry {
     pub id: u64,
     pub level: u64,

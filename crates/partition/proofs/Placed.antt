@@ -30,7 +30,7 @@ module _ (test : ℕ → Bool) (h to : ℕ) (inside : (x : ℕ) → test x ≡ t
 taken : {d from to : ℕ} {cs : List ℕ} (k : ℕ) → Apart d from cs to → Apart d from (take k cs) to
 taken zero s = none
 taken (suc k) none = none
-taken (suc k) (cut low high rest) = cut low high (taken k rest)
+taken {d = d} {from = from} {to = to} (suc k) (cut {c = c} {cs = cs} low high rest) = cut low high (taken {from = c + d} k rest)
 
 -- Cuts that are d apart are also less far apart, from an earlier position to a later one.
 pub weaker : {d e from into to past : ℕ} {cs : List ℕ} → Apart d from cs to → e ≤ d → into ≤ from → to ≤ past → Apart e into cs past

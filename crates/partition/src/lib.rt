@@ -1,4 +1,6 @@
 // Where one block of bytes is cut, by rule 3: document 02, requests 7 and 12.
+#![tactic(auto)]
+
 ghost use Rattle.partition.specs.Found.{Found};
 
 mod digit;
@@ -12,7 +14,7 @@ mod window;
 pub const RULE_NUMBER: u64 = 3;
 
 // The cuts of one block, from the left: the first n numbers of `at`.
-#[derive(Drop)]
+#[derive(Clone, Copy)]
 pub struct Cuts {
     pub n: usize,
     pub at: [usize; 32],

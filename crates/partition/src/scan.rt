@@ -13,7 +13,7 @@ use super::{run, sliding, start, window};
 const FIRST_STRETCH: usize = 16;
 
 // A position and the value there.
-#[derive(Drop)]
+#[derive(Clone, Copy)]
 pub struct Place {
     pub at: usize,
     pub value: u32,

@@ -6,7 +6,7 @@ ghost use Rattle.partition.specs.Sliding.{leaving_of, slid, Modulus, Sized};
 use super::digit::digit;
 
 // A window of so many bytes whose values are taken modulo `modulus`.
-#[derive(Drop)]
+#[derive(Clone, Copy)]
 pub struct Window {
     pub width: usize,
     pub modulus: u32,

@@ -8,7 +8,7 @@ use super::sliding::Window;
 use super::{sliding, window};
 
 // A position, the number of the window there, and the value of the window just before.
-#[derive(Drop)]
+#[derive(Clone, Copy)]
 pub struct Start {
     pub at: usize,
     pub number: u32,

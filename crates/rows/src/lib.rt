@@ -1,5 +1,7 @@
 // Lent bytes as rows of 64-bit numbers, most significant byte first. A row that the bytes do not hold whole reads 0,
 // and a store there does nothing, so no caller has to check a bound.
+#![tactic(auto)]
+
 ghost use Rattle.std.specs.Prelude.{◌≡◌, get_or};
 ghost use Rattle.rows.specs.Rows.{word_of, words_of, Stored, clear_from};
 

@@ -1,4 +1,6 @@
 // The numbers that bytes are replaced by before a window is read: document 02, request 12, "a constant table of 256 numbers".
+#![tactic(auto)]
+
 ghost use Rattle.spread.specs.Spreading.{Spreads};
 
 // Entry b is FNV-1a of the single byte b, modulo 65,521.

@@ -42,7 +42,7 @@ module _ {A : Type 0} where
   rising_append (first f r) s (also p h) = first (every_append f p) (rising_append r s h)
 
   -- The place of a member.
-  pub place : {xs : List A} {x : A} (d : A) → Memᴰ x xs → (i : ℕ) × (i < length xs) × (get_or xs i d ≡ x)
+  pub place : {x : A} {xs : List A} (d : A) → Memᴰ x xs → (i : ℕ) × (i < length xs) × (get_or xs i d ≡ x)
   place d (Memᴰ.head e) = (zero, omega arith, sym e)
   place d (Memᴰ.tail {xs = xs} m) = let p = place d m in let h : p.0 < length xs = p.1 in (suc p.0, omega arith, p.2)
 

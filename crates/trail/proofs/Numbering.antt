@@ -9,7 +9,7 @@ use lib.ListN.{length, length-append, length-map}
 use borrow.Author.Tests.{lt-ltb, le-ltb, le-leb, lt-leb, eq-eqb, ne_eqb}
 use Rattle.trail.specs.Trails.{Multiset, without, over, branches, before, count_before}
 use Rattle.trail.specs.Search.{keep, within}
-use Rattle.trail.proofs.Every.{Every, none, also, every_member, first}
+use Rattle.trail.proofs.Every.{Every, none, also, every_member, empty, first}
 use Rattle.trail.proofs.Ids.{Up}
 
 count_append : (xs : List ℕ) (list rest : List (List ℕ)) → count_before xs (list ++ rest) ≡ count_before xs list + count_before xs rest
@@ -78,6 +78,7 @@ module _ (rest : ℕ → Multiset → List (List ℕ)) (x : ℕ) (xs : List ℕ)
 
   pub branches_count : {ids : List ℕ} → Up ids → Memᴰ x ids → 0 < x → 0 < pairs v x →
       count_before (x ∷ xs) (branches rest ids v pairs) ≡ length (branches rest (keep (within 0 (x - 1)) ids) v pairs) + count_before xs (rest x (without v x pairs))
+  branches_count empty m p here = elim m [ ]
   branches_count (first {x = y} {xs = ids} h r) (Memᴰ.head e) p here =
       subst (λ (z : ℕ). Every (λ w. z < w) ids → count_before (x ∷ xs) (branches rest (z ∷ ids) v pairs) ≡ length (branches rest (keep (within 0 (x - 1)) (z ∷ ids)) v pairs) + count_before xs (rest x (without v x pairs)))
       e (here_count p here) h

@@ -10,7 +10,7 @@ use lib.Seq.{drop-cons, get_or-set_same, drop-set-lt, get_or-append-add}
 use borrow.Author.Tests.{lt-ltb, ltb-true, le-leb, lt-leb, leb-true}
 use Rattle.trail.specs.Trails.{Multiset, without, over, branches}
 use Rattle.trail.specs.Search.{keep, within, Answer}
-use Rattle.trail.proofs.Every.{Every, none, also, every_member, first}
+use Rattle.trail.proofs.Every.{Every, none, also, every_member, empty, first}
 use Rattle.trail.proofs.Ids.{Up}
 
 -- A branch that no pair leads to adds nothing.
@@ -75,6 +75,7 @@ here_branch rest low top x {ids} v pairs up hl ht here =
 pub next_branch : (rest : ℕ → Multiset → List (List ℕ)) (low top x : ℕ) {ids : List ℕ} (v : ℕ) (pairs : Multiset) →
     Up ids → Memᴰ x ids → low ≤ x → x ≤ top → 0 < pairs v x → ((y : ℕ) → low ≤ y → y ≤ top → 0 < pairs v y → x ≤ y) →
     branches rest (keep (within low top) ids) v pairs ≡ map (λ (xs : List ℕ). x ∷ xs) (rest x (without v x pairs)) ++ branches rest (keep (within (suc x) top) ids) v pairs
+next_branch rest low top x v pairs empty m hl ht here least = elim m [ ]
 next_branch rest low top x v pairs (first {x = y} {xs = ids} up r) (Memᴰ.head e) hl ht here least =
     subst (λ (z : ℕ). Every (λ w. z < w) ids → branches rest (keep (within low top) (z ∷ ids)) v pairs ≡ map (λ (xs : List ℕ). x ∷ xs) (rest x (without v x pairs)) ++ branches rest (keep (within (suc x) top) (z ∷ ids)) v pairs)
     e (λ h. here_branch rest low top x v pairs h hl ht here) up

@@ -51,7 +51,7 @@ covers_less : (ids : List ℕ) (pairs : Multiset) (v x : ℕ) → Covers ids pai
 unfolding without
 covers_less ids pairs v x c u w h = c u w (omega arith)
 
-branch_has : {ys : List ℕ} (rest : ℕ → Multiset → List (List ℕ)) {ids : List ℕ} (v x : ℕ) (pairs : Multiset) → Memᴰ x ids → 0 < pairs v x →
+branch_has : {ys : List ℕ} (rest : ℕ → Multiset → List (List ℕ)) (v x : ℕ) {ids : List ℕ} (pairs : Multiset) → Memᴰ x ids → 0 < pairs v x →
     Memᴰ ys (rest x (without v x pairs)) → Memᴰ (x ∷ ys) (branches rest ids v pairs)
 unfolding branches over
 branch_has {ys} rest v x pairs (Memᴰ.head {x = y} {xs = ids} e) h m =
@@ -88,7 +88,7 @@ before_same x xs ys h = rw (eq-eqb x x refl, h) (or-true (ltb x x))
     or-true false = refl
 
 -- What follows the branches of x starts with greater ids.
-after_branch : (rest : ℕ → Multiset → List (List ℕ)) {ids : List ℕ} (v x : ℕ) (pairs : Multiset) → Every (λ y. x < y) ids →
+after_branch : (rest : ℕ → Multiset → List (List ℕ)) (v x : ℕ) {ids : List ℕ} (pairs : Multiset) → Every (λ y. x < y) ids →
     Every (λ ys. (xs : List ℕ) → Before (x ∷ xs) ys) (branches rest ids v pairs)
 unfolding branches over
 after_branch rest v x pairs none = none

@@ -117,7 +117,7 @@ every_below : (os : List ℕ) (n : ℕ) → ((i : ℕ) → get_or os i 0 ≤ n) 
 every_below [] n h = none
 every_below (o ∷ os) n h = also (h 0) (every_below os n (λ i. h (suc i)))
 
-keep_all : {ids : List ℕ} (top : ℕ) → Every (λ y. y ≤ top) ids → keep (within 0 top) ids ≡ ids
+keep_all : (top : ℕ) {ids : List ℕ} → Every (λ y. y ≤ top) ids → keep (within 0 top) ids ≡ ids
 unfolding keep within
 keep_all top none = refl
 keep_all top (also {x = y} h r) = rw (le-leb 0 y (omega arith), le-leb y top h, keep_all top r)

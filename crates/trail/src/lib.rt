@@ -2,6 +2,8 @@
 // that their order is had again.
 // `number` says which of the multiset's trails an order is, and `order` gives the trail of a number; both say whether it is
 // the only one.
+#![tactic(auto)]
+
 mod links;
 mod rank;
 mod reach;
@@ -19,7 +21,7 @@ use walk::{find, front};
 
 // A multiset of pairs (previous id, own id) with counts, in rows: in any order, and rows of the same pair add up.
 // A row of count 0 holds nothing.
-#[derive(Drop)]
+#[derive(Clone, Copy)]
 pub struct Pairs {
     pub previous: [u64; 32],
     pub own: [u64; 32],
@@ -27,7 +29,7 @@ pub struct Pairs {
 }
 
 // An order's number, 2^32 more, and whether no other order has the same pairs; or the number of the question that refuses it.
-#[derive(Drop)]
+#[derive(Clone, Copy)]
 pub struct Numbered {
     pub answer: u64,
     pub only: bool,
@@ -35,7 +37,7 @@ pub struct Numbered {
 
 // A trail: 2^32 + k and its k ids, zeros after them, and whether it is the only one over its pairs; or the number of the
 // question that refuses it, and no ids.
-#[derive(Drop)]
+#[derive(Clone, Copy)]
 pub struct Trail {
     pub answer: u64,
     pub k: usize,

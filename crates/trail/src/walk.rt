@@ -11,7 +11,7 @@ use crate::table::{balanced, narrow};
 const LAST: u64 = 18446744073709551615;
 
 // What a search finds: the trail, as the rows of its pairs in the last places; or how many trails are still to be skipped.
-#[derive(Drop)]
+#[derive(Clone, Copy)]
 pub struct Outcome {
     pub found: bool,
     pub left: u64,

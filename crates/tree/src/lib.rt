@@ -1,4 +1,6 @@
 // A string's tree of blocks: the settings and their questions, and the node table that the tree is written to.
+#![tactic(auto)]
+
 mod cut;
 mod entry;
 mod level;
@@ -10,7 +12,7 @@ ghost use Rattle.tree.specs.Table.{Tabled};
 ghost use Rattle.tree.specs.Wrote.{Finished};
 
 // Document 01's settings: window w, fan-out p, levels L, nominal length M, sketch width q.
-#[derive(Drop)]
+#[derive(Clone, Copy)]
 pub struct Settings {
     pub window: u64,
     pub fan_out: u64,

@@ -1,0 +1,6 @@
+-- The word of an end.
+use Rattle.message_writer.proofs.Writing.{end_stored}
+use Rattle.message_writer.proofs.put.put_end.Goals as goal
+
+pub returns : goal.returns
+returns c = end_stored _ c.put_word.ensures

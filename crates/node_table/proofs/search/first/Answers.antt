@@ -1,0 +1,25 @@
+use mathlib.Core.Path.{refl, sym, ◌∙◌}
+use Prim.Native.Nat.{◌-◌}
+use Rattle.node_table.proofs.Searching.{search_start, search_zero, search_here, search_next, search_end}
+use Rattle.node_table.proofs.search.first.Goals as goal
+
+pub loop-k-init : goal.loop-k-init
+loop-k-init c = (refl, search_start _ _)
+
+pub returns-then-node_id-eq0 : goal.returns-then-node_id-eq0
+returns-then-node_id-eq0 c = search_zero _ _ _ c.loop-k.invariant.1 (sym c.node_id.ensures ∙ c.if-node_id-eq0.true)
+
+pub returns-then-matches : goal.returns-then-matches
+returns-then-matches c =
+    search_here _ _ _ c.loop-k.invariant.1
+    (λ z. c.if-node_id-eq0.false (c.node_id.ensures ∙ z)) (sym c.matches.ensures ∙ c.if-matches.true)
+
+pub loop-k-preserved : goal.loop-k-preserved
+loop-k-preserved c = (
+  c.loop-k.invariant.0,
+  search_next _ _ _ c.loop-k.invariant.1
+      (λ z. c.if-node_id-eq0.false (c.node_id.ensures ∙ z)) (sym c.matches.ensures ∙ c.if-matches.false),
+)
+
+pub returns : goal.returns
+returns c = search_end _ _ _ c.loop-k.invariant.1 c.loop-k-test.false
