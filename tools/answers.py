@@ -199,7 +199,10 @@ class Turner:
         if len(words) > 1 and words[0] == "ensures":
             return by_name(words, CLAUSES.get(callee or "", {}).get("ensures", []))
         if len(words) > 1 and words[0] in ("new", "auto") and words[1].isdigit():
-            return by_name(words, self.f.params.get(callee or "", []))
+            of = self.f.params.get(callee or "", [])
+            if len(of) == 1 and words[1] == "0":
+                return [words[0], of[0]] + words[2:]
+            return by_name(words, of)
         return words
 
     def path(self, m):
@@ -243,7 +246,8 @@ class Turner:
         t = self.inline(self.lets(t))
         names = "|".join(re.escape(x) for x in sorted(self.env, key=len, reverse=True))
         t = re.sub(r"(?<![\w'.-])(?:" + names + r")(?:\.(?:" + NAME + r"))+", self.path, t)
-        t = t.replace("\u0001", "c")
+        t = re.sub(r"(c\.wrapping_[\w-]+\.ensures)(?![\w.])", r"\1.value", t)
+        t = t.replace("\u0001", "c").replace(".type-inv", ".type_inv").replace(".well-formed", ".well_formed")
         for a, b in self.f.args:
             ma, mb = re.match(r"\.args \.(t\d+)$", a), re.match(r"\.args \.(\w+)$", b)
             if ma and mb:
@@ -303,11 +307,11 @@ def paragraphs(text):
 
 
 def subst(body, pairs):
-    for old, new in pairs:
-        if old == "_":
-            continue
-        body = re.sub(r"(?<![\w'.\-₀-₉′])" + re.escape(old) + r"(?![\w'\-₀-₉′])", new, body)
-    return body
+    table = {old: new for old, new in pairs if old != "_"}
+    if not table:
+        return body
+    names = "|".join(re.escape(x) for x in sorted(table, key=len, reverse=True))
+    return re.sub(r"(?<![\w'.\-₀-₉′])(" + names + r")(?![\w'\-₀-₉′])", lambda m: table[m.group(1)], body)
 
 
 def convert(folder, crate, path, f, say):

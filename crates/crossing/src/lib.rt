@@ -1,4 +1,6 @@
 // The nodes of a tree that share a byte with a range of the string, each with its parent: document 02, request 1.
+#![tactic(auto)]
+
 ghost use Rattle.std.specs.Prelude.{◌++◌, ◌≡◌, ◌+◌, ◌*◌, ◌/◌, ◌≤◌, ◌<◌, length, drop};
 ghost use Rattle.node_table.specs.Entries.{entry_at};
 ghost use Rattle.crossing.specs.Crossing.{crosses, crossing, crossing_bytes, Crossed};

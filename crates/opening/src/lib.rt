@@ -1,4 +1,5 @@
 // Whether a sketch opens over the own shingle list, and the new list that an opened sketch leaves.
+#![tactic(auto)]
 mod list;
 mod question;
 mod taken;
@@ -11,7 +12,7 @@ pub use taken::none_twice;
 
 // What a sketch opens to: 0 or the number of the question that refuses it, and the shingle tables of what the own list lacks and
 // of what it has to give up.
-#[derive(Drop)]
+#[derive(Clone, Copy)]
 pub struct Opening {
     pub refusal: u64,
     pub new: [u8; 4608],

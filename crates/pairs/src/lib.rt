@@ -1,5 +1,7 @@
 // Whether the new list of an opening is short enough and has no pair twice at one level, asked before it is made. What is kept of
 // the own list and what is new lie in two tables that may not change, so the places of their entries are sorted in their stead.
+#![tactic(auto)]
+
 mod neighbours;
 mod places;
 mod shell;

@@ -1,4 +1,6 @@
 // What setting up either end has in common: the questions, and a string's node table, shingle table and cell table.
+#![tactic(auto)]
+
 ghost use Rattle.std.specs.Prelude.{true, ◌≡◌};
 ghost use Rattle.setup.specs.Questions.{tables_fit, lent_refusal};
 ghost use Rattle.setup.specs.Tables.{SetUp};

@@ -1,4 +1,6 @@
 // The shingle list of a node table, and looking things up in a list.
+#![tactic(auto)]
+
 mod list;
 mod merge;
 mod pairs;
@@ -7,7 +9,7 @@ ghost use Rattle.std.specs.Prelude.{◌≡◌, length};
 ghost use Rattle.shingle.specs.Table.{Filled, shingle_in_table, shingles_in, holds};
 
 // Document 01's shingle: a pair of neighbours' ids at a level, and how many nodes of the level give it.
-#[derive(Drop)]
+#[derive(Clone, Copy)]
 pub struct Shingle {
     pub previous: u64,
     pub own: u64,

@@ -1,4 +1,6 @@
 // Opening a sketch, first part: own cells are subtracted from the sender's and single cells are taken one after the other.
+#![tactic(auto)]
+
 mod cell;
 mod taking;
 

@@ -149,7 +149,7 @@ after_keys s x (ahead e f) h = f _
 after_keys s x (alike e f g) h = absurd (both h (earlier_alike _ _ _ _ _ _ _ e f g))
 after_keys s x (behind e f) h = absurd (both h (f _))
 
-above_over : {ss : List Shingle} (s : Shingle) → Over (pair_of s) ss → Above before s ss
+above_over : (s : Shingle) {ss : List Shingle} → Over (pair_of s) ss → Above before s ss
 above_over s none = end
 above_over s (more {s = x} e o) = then (after_keys s x (keys _ _ _ _ _ _) e) (above_over s o)
 

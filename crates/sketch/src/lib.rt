@@ -1,4 +1,6 @@
 // The cells of a shingle list, and the hashes that place a shingle in them.
+#![tactic(auto)]
+
 mod adding;
 mod hashing;
 

@@ -1,0 +1,6 @@
+-- Subtracted, taken from, and tested: the law `taken_all`.
+use Rattle.single.proofs.Differences.{taken_all}
+use Rattle.single.proofs.taking.take_difference.Goals as goal
+
+pub returns : goal.returns
+returns c = taken_all _ _ _ _ _ _ _ _ _ _ c.requires.0 c.requires.1.0 c.requires.1.1.0 c.subtract.ensures c.take_all.ensures c.all_zero.ensures
