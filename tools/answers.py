@@ -229,7 +229,7 @@ class Turner:
         if new is None:
             self.left.append(m.group(0))
             return ".".join(["c"] + words)
-        if words[1:2] == ["given"]:
+        if words[1:2] == ["given"] and w.startswith("shared"):
             k = self.f.index.get(self.place)
             if k is not None and k < len(self.f.typed):
                 for var, known in self.f.typed[k]:

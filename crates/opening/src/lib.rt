@@ -1,5 +1,6 @@
 // Whether a sketch opens over the own shingle list, and the new list that an opened sketch leaves.
 #![tactic(auto)]
+
 mod list;
 mod question;
 mod taken;

@@ -13,7 +13,7 @@ use Rattle.sketch.specs.Opening.{kept, before, pair_in, no_pair_twice}
 use Rattle.sketch.proofs.NewList.{or_swap}
 
 -- A rising list has no pair twice.
-over_none : {ss : List Shingle} (s : Shingle) → Over (pair_of s) ss → pair_in s ss ≡ false
+over_none : (s : Shingle) {ss : List Shingle} → Over (pair_of s) ss → pair_in s ss ≡ false
 unfolding pair_in
 over_none s none = refl
 over_none s (more {s = x} e o) = rw (same_lower (pair_of s) (pair_of x) e) (over_none s o)
