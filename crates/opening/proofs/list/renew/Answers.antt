@@ -8,7 +8,7 @@ use Rattle.opening.proofs.Outcome.{number_fits, no_room, append_fits, sort_fits,
 use Rattle.opening.proofs.list.renew.Goals as goal
 
 pub overflow_add-n : goal.overflow_add-n
-overflow_add-n c = record { fits = number_fits _ _ _ _ _ c.count-old.ensures c.size-more.ensures c.well_formed.new.0 (omega (arith, c.well_formed.1.1.0)) }
+overflow_add-n c = record { fits = number_fits _ _ _ _ _ c.count-old.ensures c.size-more.ensures c.well_formed.0.0 (omega (arith, c.well_formed.1.1.0)) }
 
 pub returns-then-table-n : goal.returns-then-table-n
 returns-then-table-n c = no_room _ _ _ _ _ c.count-old.ensures c.size-more.ensures c.if-table-n.true
