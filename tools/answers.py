@@ -52,6 +52,7 @@ def clauses(root):
 
 
 CLAUSES = {}
+SOURCES = [""]
 
 
 class Function:
@@ -252,8 +253,12 @@ class Turner:
             ma, mb = re.match(r"\.args \.(t\d+)$", a), re.match(r"\.args \.(\w+)$", b)
             if ma and mb:
                 t = re.sub(r"(?<=\.)" + ma.group(1) + r"(?![\w'-])", mb.group(1), t)
-        t = re.sub(r"\(not-(?:true|false) _ (c\.if-not-[\w-]+\.(?:true|false))\)", r"\1", t)
-        t = re.sub(r"not-(?:true|false) _ (c\.if-not-[\w-]+\.(?:true|false))", r"\1", t)
+        def plain(m):
+            x = re.match(r"c\.if-not-([\w-]+?)(?:-in-[\w-]+)?(?:-\d+)?\.", m.group(1)).group(1)
+            # A field's negation is kept as it is written.
+            return m.group(0) if re.search(r"!" + re.escape(x) + r"\.\w+\b(?!\()", SOURCES[0]) else m.group(1)
+        t = re.sub(r"\(not-(?:true|false) _ (c\.if-not-[\w-]+\.(?:true|false))\)", plain, t)
+        t = re.sub(r"not-(?:true|false) _ (c\.if-not-[\w-]+\.(?:true|false))", plain, t)
         t = re.sub(r"not-(?:true|false) _ (c\.[\w-]*-test\.(?:true|false))", r"\1", t) if False else t
         return t
 
@@ -327,6 +332,13 @@ def convert(folder, crate, path, f, say):
         if h:
             place = next((p for p in f.places if norm(p) == norm(h[1])), None)
             tied[h[0]] = (place, h[2])
+    for para in paras:
+        body = "\n".join(l for l in para if not l.startswith("--"))
+        m = re.match(r"(" + NAME + r")\s*:\s*tie\.Need-(\S+)", body)
+        b = re.search(r"^" + re.escape(m.group(1)) + r" c(?: \S+)? =\s*", body, re.M) if m else None
+        n = f.need(m.group(2)) if m else None
+        if b and n is not None and not TRIVIAL.match(body[b.end():].replace("\n", " ")):
+            tied[m.group(1)] = (f.at[n][0], body[b.end():].strip())
     Turner.helpers = tied
     for para in paras:
         if helper_of(para):
@@ -399,11 +411,15 @@ def convert(folder, crate, path, f, say):
             old, new = f.needs[n]
             own = crate + "::" + path.replace("/", "::")
             t = Turner(f, f.at[n][0], own)
+            t.helpers = {k: v for k, v in tied.items() if k != name}
             given = mb.group(1).split()
             if given[:1] != ["c"]:
                 say(f"{path}: {name}: first argument is {given}")
             value = t.text(value)
             value = re.sub(r"^\s*\n", "\n", value)
+            arm = re.search(r"(?:^|-)in-([A-Z]\w*)", new)
+            if arm:
+                value = re.sub(r"c\.[\w-]+\.given\.1(?!\w)", f"c.in-{arm.group(1)}.is", value)
             for x in t.left:
                 say(f"{path}: {new}: no step for {x}")
             if "\n" in value and not value.startswith("\n"):
@@ -563,6 +579,8 @@ def main():
     crate = os.path.basename(os.path.abspath(folder))
     with open(names, encoding="utf-8") as it:
         table = json.load(it)
+    src = os.path.join(folder, "src")
+    SOURCES[0] = "\n".join(open(os.path.join(a, x), encoding="utf-8").read() for a, _, fs in os.walk(src) for x in fs)
     CLAUSES.update(clauses(os.path.join(folder, "..", "..")))
     fs = {}
     for key, entry in table.items():

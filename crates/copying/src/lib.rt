@@ -1,18 +1,20 @@
 // Own nodes' bytes copied to the output, while the top of the pile is the id of one.
+#![tactic(auto)]
+
 mod output;
 mod turns;
 
 ghost use Rattle.copying.specs.Copying.{Finds, Copies};
 
 // A pending node.
-#[derive(Drop)]
+#[derive(Clone, Copy)]
 pub struct Waiting {
     pub level: u64,
     pub id: u64,
 }
 
 // Where a node lies in the string, if there is one.
-#[derive(Drop)]
+#[derive(Clone, Copy)]
 pub struct Place {
     pub there: bool,
     pub start: usize,
@@ -20,7 +22,7 @@ pub struct Place {
 }
 
 // What copying leaves: whether the output stayed within its length, how many bytes are built, and how many nodes are pending.
-#[derive(Drop)]
+#[derive(Clone, Copy)]
 pub struct Copied {
     pub fits: bool,
     pub built: usize,

@@ -5,7 +5,7 @@ ghost use Rattle.protocol.specs.Sender.{child_ids};
 ghost use Rattle.reply.specs.Parts.{role_at, Collected};
 
 // The ids of children: their number, or 33 if they are more than 32.
-#[derive(Drop)]
+#[derive(Clone, Copy)]
 pub struct Children {
     pub count: usize,
     pub ids: [u64; 32],

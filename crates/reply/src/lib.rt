@@ -1,4 +1,6 @@
 // The sender's reply to a message, over a string and the tables that it is lent.
+#![tactic(auto)]
+
 mod child;
 mod node;
 mod plan;

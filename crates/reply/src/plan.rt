@@ -10,7 +10,7 @@ use tree::Settings;
 
 // A composition by these references, with the number of the children's trail if it is `numbered`; or, if it is not `composed`, the
 // node's bytes.
-#[derive(Drop)]
+#[derive(Clone, Copy)]
 pub struct Plan {
     pub composed: bool,
     pub numbered: bool,

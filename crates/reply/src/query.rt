@@ -5,7 +5,7 @@ ghost use Rattle.reply.specs.Parts.{query, query_of_message};
 use message::Message;
 
 // Kind 1 asks for the opening and 2 for a node; else the kind is the number of the question that refuses the message.
-#[derive(Drop)]
+#[derive(Clone, Copy)]
 pub struct Query {
     pub kind: u64,
     pub session: u64,

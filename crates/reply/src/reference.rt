@@ -11,7 +11,7 @@ use shingle::Shingle;
 
 // Reference k has entry k of the indexes and of the counts. Their number, or 33 if they are more than 32 or an index needs more than its
 // 12 bits.
-#[derive(Drop)]
+#[derive(Clone, Copy)]
 pub struct References {
     pub count: usize,
     pub indexes: [u64; 32],

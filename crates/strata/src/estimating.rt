@@ -9,7 +9,7 @@ use shingle::Shingle;
 use single::TAKEN_BYTES;
 
 // Whether a stratum opens, and how many shingles it lists.
-#[derive(Drop)]
+#[derive(Clone, Copy)]
 struct Listing {
     opens: bool,
     count: usize,

@@ -1,4 +1,6 @@
 // The strata estimator: about how many shingles of two lists differ.
+#![tactic(auto)]
+
 mod estimating;
 mod filling;
 mod zeros;
