@@ -222,6 +222,8 @@ class Turner:
             words = by_name(words, CLAUSES.get(self.own, {}).get("requires", []))
         if w in ("args", "ranges", "requires", "lifetimes", "well_formed", "type_inv"):
             return ".".join(["c"] + words)
+        if w == "fits2" and not any(norm(q[2][0]) == "fits2" for q in self.f.places.values()):
+            w = "fits"
         new, at = self.f.step(p or start, w)
         if new is None:
             new, at = self.f.step(start, w)

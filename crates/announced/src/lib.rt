@@ -1,4 +1,6 @@
 // What an opening announces, judged by the own settings, the output lent and the own tables: questions 12, 13 and 14.
+#![tactic(auto)]
+
 mod cells;
 mod question;
 

@@ -146,7 +146,7 @@ module _ (list : List Shingle) (level : ℕ) (message : List ℕ) (at count k : 
         }
 
     pub fill_next : count ≤ 32 → row.named ≡ true
-        → Filling list level message at count (k + 1) (set previous k row.previous) (set own k row.own_val) (set times k r.count)
+        → Filling list level message at count (k + 1) (set previous k row.previous) (set own k row.own) (set times k r.count)
     fill_next few e =
         let long : length (refs_in message at k) ≡ k = length_refs message at k in
         let more : refs_in message at (k + 1) ≡ refs_in message at k ++ r ∷ [] =
@@ -161,7 +161,7 @@ module _ (list : List Shingle) (level : ℕ) (message : List ℕ) (at count k : 
                     c.columns.previous_is (look.previous_is e)
                     ∙ ap (λ (l : List Ref). padded (previouses list l)) (sym more);
                 own_is =
-                    column_more (λ (x : Ref). (named list x).own) own (refs_in message at k) r row.own_val k long (omega arith) c.columns.own_is
+                    column_more (λ (x : Ref). (named list x).own) own (refs_in message at k) r row.own k long (omega arith) c.columns.own_is
                     (look.own_is e)
                     ∙ ap (λ (l : List Ref). padded (owns list l)) (sym more);
                 count_is =

@@ -13,7 +13,7 @@ ref index count = record { index = index; count = count }
 pub record Named (list : List Shingle) (level : ℕ) (r : Ref) (row : Row) : Type 0 where
   pub is : row.named ≡ is_named list level r
   pub previous_is : row.named ≡ true → row.previous ≡ (named list r).previous
-  pub own_is : row.named ≡ true → row.own_val ≡ (named list r).own
+  pub own_is : row.named ≡ true → row.own ≡ (named list r).own
 
 -- A column of 32 places: numbers, and zeros after them.
 unfoldable pub padded : List ℕ → List ℕ

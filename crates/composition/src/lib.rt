@@ -1,4 +1,6 @@
 // Question 17: whether a composition composes its node, and the children that it then gives.
+#![tactic(auto)]
+
 mod table;
 
 ghost use Rattle.std.specs.Prelude.{◌≡◌, ℕ};
@@ -13,7 +15,7 @@ use tree::Settings;
 
 // The children that a composition gives: how many, and their ids in order, zeros after them. `composed` is false where question 17
 // refuses it, and there are then none.
-#[derive(Drop)]
+#[derive(Clone, Copy)]
 pub struct Children {
     pub composed: bool,
     pub count: usize,

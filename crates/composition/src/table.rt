@@ -9,7 +9,7 @@ use shingle::shingle_at;
 use trail::Pairs;
 
 // The pair of the shingle that a reference names; `named` is false if it names none.
-#[derive(Drop)]
+#[derive(Clone, Copy)]
 struct Row {
     named: bool,
     previous: u64,
@@ -17,7 +17,7 @@ struct Row {
 }
 
 // The pairs of all references; `named` is false if one of them names no shingle.
-#[derive(Drop)]
+#[derive(Clone, Copy)]
 pub struct Table {
     pub named: bool,
     pub pairs: Pairs,

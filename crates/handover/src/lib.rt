@@ -1,11 +1,13 @@
 // What an accepted message comes to: own nodes are copied, and a string that is whole is handed over.
+#![tactic(auto)]
+
 ghost use Rattle.handover.specs.Handover.{Refused, Concluded};
 
 use copying::Waiting;
 
 // The answer is 0 while nodes are pending, 2^32 and the string's length when it is handed over, else the number of the question that
 // refuses; then so many bytes that are built, and so many pending nodes.
-#[derive(Drop)]
+#[derive(Clone, Copy)]
 pub struct Outcome {
     pub answer: u64,
     pub built: usize,

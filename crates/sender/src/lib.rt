@@ -1,4 +1,6 @@
 // The sender's end: setting it up, the settings that its state holds, and its replies.
+#![tactic(auto)]
+
 mod state;
 
 ghost use Rattle.std.specs.Prelude.{◌≡◌};

@@ -1,4 +1,6 @@
 // The receiver's state between its calls, by value: what it starts with, goes on with and ends with, its question 9, and its query.
+#![tactic(auto)]
+
 mod pile;
 mod question;
 
@@ -14,7 +16,7 @@ use tree::Settings;
 
 // Phase 0: no opening taken yet; 1: an opening taken; any other: the session ended, which is written as 2. The first `waiting` of the
 // places are the pending nodes, the last of them the top.
-#[derive(Drop)]
+#[derive(Clone, Copy)]
 pub struct Receiver {
     pub settings: Settings,
     pub session: u64,
@@ -28,7 +30,7 @@ pub struct Receiver {
 }
 
 // A query that a receiver has outstanding: kind 0 none, 1 the opening's, 2 that of a node with this level and id.
-#[derive(Drop)]
+#[derive(Clone, Copy)]
 pub struct Outstanding {
     pub kind: u64,
     pub level: u64,
@@ -36,7 +38,7 @@ pub struct Outstanding {
 }
 
 // What a call answers, and the state after it.
-#[derive(Drop)]
+#[derive(Clone, Copy)]
 pub struct Taken {
     pub answer: u64,
     pub state: Receiver,

@@ -1,5 +1,7 @@
 // The receiver's state in lent bytes: 268 rows of 64 bits, most significant byte first. They are the settings, the session and the other
 // numbers, then level and id of each place.
+#![tactic(auto)]
+
 ghost use Rattle.std.specs.Prelude.{◌≡◌, ◌≤◌, length};
 ghost use Rattle.rows.specs.Rows.{words_of};
 ghost use Rattle.state_bytes.specs.Bytes.{settings_from, places_from, state_in, place_rows, Rowed, Stores};
