@@ -1,4 +1,6 @@
 // How taking a message leaves the session: over by a question's no, or, once own nodes are copied, going on or over.
+#![tactic(auto)]
+
 ghost use Rattle.advance.specs.Advance.{Ended, Advanced};
 
 use copying::Waiting;

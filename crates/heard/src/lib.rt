@@ -1,4 +1,6 @@
 // What a message that was read says to a receiver, and question 11.
+#![tactic(auto)]
+
 ghost use Rattle.std.specs.Prelude.{◌≡◌};
 ghost use Rattle.heard.specs.Heard.{said, said_of_message, announced, announced_of_message, fitting};
 
@@ -7,7 +9,7 @@ use state::Outstanding;
 
 // Kind 3 to 6 is the message's type; 10 is a message that is not well formed, 11 a query. Of a node reply the level and the id, whether a
 // composition is `numbered` and then its number, and how many references or bytes it has.
-#[derive(Drop)]
+#[derive(Clone, Copy)]
 pub struct Said {
     pub kind: u64,
     pub session: u64,
@@ -19,7 +21,7 @@ pub struct Said {
 }
 
 // What an opening announces.
-#[derive(Drop)]
+#[derive(Clone, Copy)]
 pub struct Announced {
     pub rule: u64,
     pub w: u64,

@@ -1,4 +1,6 @@
 // Setting a receiver up, and writing its query.
+#![tactic(auto)]
+
 ghost use Rattle.receiver.specs.Calls.{ReceiverSetUp, Asked};
 
 use state::{Receiver, Taken};
