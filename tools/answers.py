@@ -203,7 +203,9 @@ class Turner:
             of = self.f.params.get(callee or "", [])
             if len(of) == 1 and words[1] == "0":
                 return [words[0], of[0]] + words[2:]
-            return by_name(words, of)
+            out = by_name(words, of)
+            # These pairs end with a unit, so that the last is one step further in.
+            return out[:2] + out[3:] if out[1] == of[-1] and out[2:3] == ["0"] else out
         return words
 
     def path(self, m):

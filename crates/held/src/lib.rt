@@ -1,4 +1,6 @@
 // The receiver's calls with its state held in lent bytes, as C calls them.
+#![tactic(auto)]
+
 ghost use Rattle.std.specs.Prelude.{◌≡◌};
 ghost use Rattle.tree.specs.Questions.{within};
 ghost use Rattle.state_bytes.specs.Bytes.{state_in};

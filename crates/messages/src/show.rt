@@ -1,59 +1,60 @@
 // Prints what a writer answered and left, and what the reader finds in it.
-use libc::STDOUT_FILENO;
 use message::Message;
 use message::reader::{cell_value, copy_bytes, message_type, read, reference_at};
+use std::io;
+use std::io::Write;
 
-fn print_number(n: u64) {
-    io::write_all(STDOUT_FILENO, b" ");
-    io::print_decimal(STDOUT_FILENO, n);
+fn print_number<W: Write>(out: &mut W, n: u64) -> io::Result<()> {
+    write!(out, " {n}")
 }
 
-fn end_line() {
-    io::write_all(STDOUT_FILENO, b"\n");
+fn end_line<W: Write>(out: &mut W) -> io::Result<()> {
+    out.write_all(b"\n")
 }
 
-fn print_pair(session: u64, level: u64, id: u64) {
-    print_number(session);
-    print_number(level);
-    print_number(id);
+fn print_pair<W: Write>(out: &mut W, session: u64, level: u64, id: u64) -> io::Result<()> {
+    print_number(out, session)?;
+    print_number(out, level)?;
+    print_number(out, id)
 }
 
 // The values of an opening's 3q cells in one number: twice the last and one value more, modulo 2^64, from 0 on.
-fn print_cells(message: &[u8], at: usize, q: u64) {
+fn print_cells<W: Write>(out: &mut W, message: &[u8], at: usize, q: u64) -> io::Result<()> {
     let mut sum: u64 = 0;
-    let mut k: usize = 0;
-    while k < 960 {
+    for k in 0..960usize {
         if k as u64 / 15 < q {
-            sum = std::num::wrapping_add_u64(
-                std::num::wrapping_add_u64(sum, sum),
-                cell_value(message, at, k),
-            );
+            sum = sum
+                .wrapping_add(sum)
+                .wrapping_add(cell_value(message, at, k));
         }
-        k += 1;
     }
-    print_number(sum);
+    print_number(out, sum)
 }
 
-fn print_references(message: &[u8], at: usize, count: usize) {
-    print_number(count as u64);
-    let mut k: usize = 0;
-    while k < count {
+fn print_references<W: Write>(
+    out: &mut W,
+    message: &[u8],
+    at: usize,
+    count: usize,
+) -> io::Result<()> {
+    print_number(out, count as u64)?;
+    for k in 0..count {
         let reference = reference_at(message, at, k);
-        print_number(reference.index);
-        print_number(reference.count);
-        k += 1;
+        print_number(out, reference.index)?;
+        print_number(out, reference.count)?;
     }
+    Ok(())
 }
 
 // How many bytes a literal has, at most 128, and FNV-1a of 128 bytes that were 170 before the literal was copied to their front.
-fn print_bytes(message: &[u8], at: usize, count: usize) {
+fn print_bytes<W: Write>(out: &mut W, message: &[u8], at: usize, count: usize) -> io::Result<()> {
     let mut bytes = [170u8; 128];
     copy_bytes(message, at, count, &mut bytes);
-    print_number(count as u64);
-    print_number(fnv::hash(&bytes));
+    print_number(out, count as u64)?;
+    print_number(out, fnv::hash(&bytes))
 }
 
-fn print_opening(message: &[u8]) {
+fn print_opening<W: Write>(out: &mut W, message: &[u8]) -> io::Result<()> {
     let found = read(message);
     let Message::Opening {
         session,
@@ -68,26 +69,26 @@ fn print_opening(message: &[u8]) {
         at,
     } = found
     else {
-        return;
+        return Ok(());
     };
-    print_pair(session, rule, w);
-    print_pair(p, levels, m);
-    print_pair(q, length, root);
-    print_cells(message, at, q);
+    print_pair(out, session, rule, w)?;
+    print_pair(out, p, levels, m)?;
+    print_pair(out, q, length, root)?;
+    print_cells(out, message, at, q)
 }
 
 // 1 and the trail number, or 0 and 0 where it is omitted.
-fn print_trail(numbered: bool, number: u64) {
+fn print_trail<W: Write>(out: &mut W, numbered: bool, number: u64) -> io::Result<()> {
     if numbered {
-        print_number(1);
-        print_number(number);
+        print_number(out, 1)?;
+        print_number(out, number)
     } else {
-        print_number(0);
-        print_number(0);
+        print_number(out, 0)?;
+        print_number(out, 0)
     }
 }
 
-fn print_composition(message: &[u8]) {
+fn print_composition<W: Write>(out: &mut W, message: &[u8]) -> io::Result<()> {
     let found = read(message);
     let Message::Composition {
         session,
@@ -99,14 +100,14 @@ fn print_composition(message: &[u8]) {
         count,
     } = found
     else {
-        return;
+        return Ok(());
     };
-    print_pair(session, level, id);
-    print_trail(numbered, number);
-    print_references(message, at, count);
+    print_pair(out, session, level, id)?;
+    print_trail(out, numbered, number)?;
+    print_references(out, message, at, count)
 }
 
-fn print_literal(message: &[u8]) {
+fn print_literal<W: Write>(out: &mut W, message: &[u8]) -> io::Result<()> {
     let found = read(message);
     let Message::Literal {
         session,
@@ -116,46 +117,47 @@ fn print_literal(message: &[u8]) {
         count,
     } = found
     else {
-        return;
+        return Ok(());
     };
-    print_pair(session, level, id);
-    print_bytes(message, at, count);
+    print_pair(out, session, level, id)?;
+    print_bytes(out, message, at, count)
 }
 
 // What the message says, type by type.
-fn print_message(message: &[u8]) {
+fn print_message<W: Write>(out: &mut W, message: &[u8]) -> io::Result<()> {
     let found = read(message);
     match found {
-        Message::OpeningQuery { session } => print_number(session),
-        Message::NodeQuery { session, level, id } => print_pair(session, level, id),
-        Message::NoNode { session, level, id } => print_pair(session, level, id),
+        Message::OpeningQuery { session } => print_number(out, session),
+        Message::NodeQuery { session, level, id } => print_pair(out, session, level, id),
+        Message::NoNode { session, level, id } => print_pair(out, session, level, id),
         _ => {
-            print_opening(message);
-            print_composition(message);
-            print_literal(message);
+            print_opening(out, message)?;
+            print_composition(out, message)?;
+            print_literal(out, message)
         }
     }
 }
 
 // A line with the type of the message, as the reader answers it, and what the reader finds.
-pub fn found(message: &[u8]) {
-    io::write_all(STDOUT_FILENO, b"read");
-    print_number(message_type(message));
-    print_message(message);
-    end_line();
+pub fn found<W: Write>(out: &mut W, message: &[u8]) -> io::Result<()> {
+    out.write_all(b"read")?;
+    print_number(out, message_type(message))?;
+    print_message(out, message)?;
+    end_line(out)
 }
 
 // A line with the writer's answer and FNV-1a of the whole buffer; then, if a message was written, what is found in it.
-pub fn written(answer: u64, buffer: &[u8]) {
-    io::write_all(STDOUT_FILENO, b"write");
-    print_number(answer);
-    print_number(fnv::hash(buffer));
-    end_line();
+pub fn written<W: Write>(out: &mut W, answer: u64, buffer: &[u8]) -> io::Result<()> {
+    out.write_all(b"write")?;
+    print_number(out, answer)?;
+    print_number(out, fnv::hash(buffer))?;
+    end_line(out)?;
     if answer < 4294967296 {
-        return;
+        return Ok(());
     }
     let n = (answer % 4294967296) as usize;
     if n <= buffer.len() {
-        found(&buffer[..n]);
+        found(out, &buffer[..n])?;
     }
+    Ok(())
 }

@@ -1,4 +1,6 @@
 // What the drive's firmware calls from C: numbers and lent bytes. include/rcds.h declares these functions.
+#![tactic(auto)]
+
 mod ids;
 
 ghost use Rattle.std.specs.Prelude.{[], ◌≡◌, length};
@@ -22,15 +24,7 @@ use trail::Pairs;
 use tree::Settings;
 
 // Cuts a string into its tree of blocks and writes the tree to the node table. Asked are 1 to 4, 6, 7 of the node table, and 8.
-#[unsafe(no_mangle)]
-pub extern "C" fn rcds_tree(
-    w: u64,
-    p: u64,
-    levels: u64,
-    nominal: u64,
-    string: &[u8],
-    nodes: &mut [u8],
-) -> u64
+pub fn rcds_tree(w: u64, p: u64, levels: u64, nominal: u64, string: &[u8], nodes: &mut [u8]) -> u64
     ensures { Tabled (tree_settings w p levels nominal) string.now nodes.old nodes.new result }
 {
     let settings = Settings {
@@ -44,22 +38,14 @@ pub extern "C" fn rcds_tree(
 }
 
 // Writes the nodes that share a byte with a range of the string, each with its parent. Asked are 21 and 22.
-#[unsafe(no_mangle)]
-pub extern "C" fn rcds_crossed(
-    string: &[u8],
-    nodes: &[u8],
-    start: u64,
-    size: u64,
-    crossed: &mut [u8],
-) -> u64
+pub fn rcds_crossed(string: &[u8], nodes: &[u8], start: u64, size: u64, crossed: &mut [u8]) -> u64
     ensures { Crossed (length string.now) nodes.now start size crossed.old crossed.new result }
 {
     crossing::crossed(string, nodes, start, size, crossed)
 }
 
 // The most blocks that one cutting of n bytes gives. Asked is 24.
-#[unsafe(no_mangle)]
-pub extern "C" fn rcds_most_blocks(n: u64, w: u64, h: u64) -> u64
+pub fn rcds_most_blocks(n: u64, w: u64, h: u64) -> u64
     ensures { result ≡ most_answer n w h }
 {
     most_blocks::most_blocks(n, w, h)
@@ -67,8 +53,7 @@ pub extern "C" fn rcds_most_blocks(n: u64, w: u64, h: u64) -> u64
 
 // The number of the order that the ids give, each 8 bytes: 2^32 more than how many trails over its pairs come before it, and 2^33 more
 // where it is the only one; or 17.
-#[unsafe(no_mangle)]
-pub extern "C" fn rcds_trail_number(ids: &[u8]) -> u64
+pub fn rcds_trail_number(ids: &[u8]) -> u64
     ensures { result ≡ trail_number_answer ids.now }
 {
     if ids.len() % 8 != 0 {
@@ -85,8 +70,7 @@ pub extern "C" fn rcds_trail_number(ids: &[u8]) -> u64
 
 // Writes the order of a number over pairs: entries of three rows, previous id, own id, count. Asked are 17 and 20. The answer is 2^33
 // more where it is the only one.
-#[unsafe(no_mangle)]
-pub extern "C" fn rcds_trail_order(pairs: &[u8], number: u64, ids: &mut [u8]) -> u64
+pub fn rcds_trail_order(pairs: &[u8], number: u64, ids: &mut [u8]) -> u64
     ensures { Ordered pairs.now number ids.old ids.new result }
 {
     if pairs.len() % 24 != 0 {
@@ -119,16 +103,14 @@ pub extern "C" fn rcds_trail_order(pairs: &[u8], number: u64, ids: &mut [u8]) ->
 }
 
 // The type of a well-formed message, 2^32 more, or 10.
-#[unsafe(no_mangle)]
-pub extern "C" fn rcds_message_type(message: &[u8]) -> u64
+pub fn rcds_message_type(message: &[u8]) -> u64
     ensures { result ≡ type_answer (parse message.now) }
 {
     message::reader::message_type(message)
 }
 
 // Sets a sender up: fills its three tables from the string, and writes its settings to its state. Asked are 1 to 8.
-#[unsafe(no_mangle)]
-pub extern "C" fn rcds_sender_setup(
+pub fn rcds_sender_setup(
     window: u64,
     fan_out: u64,
     levels: u64,
@@ -154,8 +136,7 @@ pub extern "C" fn rcds_sender_setup(
 }
 
 // Writes a sender's reply to a message. Asked are 1 to 7, 10, 11 and 20.
-#[unsafe(no_mangle)]
-pub extern "C" fn rcds_reply(
+pub fn rcds_reply(
     state: &[u8],
     string: &[u8],
     nodes: &[u8],
@@ -171,8 +152,7 @@ pub extern "C" fn rcds_reply(
 }
 
 // Sets a receiver up: fills its three tables from its own string, and writes the state of a new session. Asked are 1 to 8.
-#[unsafe(no_mangle)]
-pub extern "C" fn rcds_receiver_setup(
+pub fn rcds_receiver_setup(
     window: u64,
     fan_out: u64,
     levels: u64,
@@ -199,8 +179,7 @@ pub extern "C" fn rcds_receiver_setup(
 }
 
 // Writes a receiver's outstanding query. Asked are 1 to 7, 9 and 20.
-#[unsafe(no_mangle)]
-pub extern "C" fn rcds_query(
+pub fn rcds_query(
     state: &[u8],
     own: &[u8],
     nodes: &[u8],
@@ -215,8 +194,7 @@ pub extern "C" fn rcds_query(
 }
 
 // Takes a message. Asked are 1 to 7, 9 to 11, and 12 to 19.
-#[unsafe(no_mangle)]
-pub extern "C" fn rcds_take(
+pub fn rcds_take(
     state: &mut [u8],
     own: &[u8],
     nodes: &[u8],
@@ -232,8 +210,7 @@ pub extern "C" fn rcds_take(
 }
 
 // Opens a sketch over the own shingle list. Asked are 3, 5, 7 of the three tables, and 14.
-#[unsafe(no_mangle)]
-pub extern "C" fn rcds_sketch_open(
+pub fn rcds_sketch_open(
     levels: u64,
     width: u64,
     theirs: &[u8],
@@ -246,8 +223,7 @@ pub extern "C" fn rcds_sketch_open(
 }
 
 // Writes the strata of the shingle table's list. Asked are 1 to 7.
-#[unsafe(no_mangle)]
-pub extern "C" fn rcds_strata_build(
+pub fn rcds_strata_build(
     state: &[u8],
     string: &[u8],
     nodes: &[u8],
@@ -263,8 +239,7 @@ pub extern "C" fn rcds_strata_build(
 }
 
 // About how many shingles differ, from the other end's strata, the own ones and the own list. Asked are 1 to 7.
-#[unsafe(no_mangle)]
-pub extern "C" fn rcds_strata_estimate(
+pub fn rcds_strata_estimate(
     state: &[u8],
     string: &[u8],
     nodes: &[u8],

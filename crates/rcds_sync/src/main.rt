@@ -1,6 +1,11 @@
-// Document 01's second program: reads the files sender.bin and receiver.bin, at most 16,384 bytes of each, runs a session between them and
+// Reads the files sender.bin and receiver.bin, at most 16,384 bytes of each, runs a session between them and
 // writes the string that the receiver hands over, or nothing if it is refused. The settings w=2, p=2, L=1, M=2, q=64 are built in.
-use libc::STDOUT_FILENO;
+#![tactic(auto)]
+
+use anyhow::{Context, Result};
+use std::fs::File;
+use std::io;
+use std::io::{Read, Write};
 use tree::Settings;
 
 // Runs session 1 from one string to a receiver that holds another. The output has room for the string, and the sender's buffer for each of
@@ -36,33 +41,31 @@ fn hand_over(string: &[u8], own: &[u8], output: &mut [u8]) -> u64 {
     )
 }
 
+// The first 16,384 bytes of a file. An error names the file.
+fn read_file(rt: &HostRuntime, name: &str) -> Result<Vec<u8>> {
+    let mut bytes = Vec::new(rt.alloc());
+    let file = File::open(rt, name).context(name)?;
+    file.take(16384).read_to_end(&mut bytes).context(name)?;
+    Ok(bytes)
+}
+
 // Writes what is handed over. An answer below 2^32 is a refusal.
-fn synchronise(string: &[u8], own: &[u8]) {
+fn synchronise<W: Write>(out: &mut W, string: &[u8], own: &[u8]) -> io::Result<()> {
     let mut output = [0u8; 16384];
     let answer = hand_over(string, own, &mut output);
     if answer < 4294967296 {
-        return;
+        return Ok(());
     }
     let size = (answer - 4294967296) as usize;
     if size <= 16384 {
-        io::write_all(STDOUT_FILENO, &output[..size]);
+        out.write_all(&output[..size])?;
     }
+    out.flush()
 }
 
-fn main() {
-    let sender = os::open_read(b"sender.bin");
-    if sender < 0 {
-        os::fail(b"sender.bin");
-        return;
-    }
-    let mut string = [0u8; 16384];
-    let n = io::read_full(sender, &mut string);
-    let receiver = os::open_read(b"receiver.bin");
-    if receiver < 0 {
-        os::fail(b"receiver.bin");
-        return;
-    }
-    let mut own = [0u8; 16384];
-    let m = io::read_full(receiver, &mut own);
-    synchronise(&string[..n], &own[..m]);
+fn main(rt: HostRuntime) -> Result<()> {
+    let string = read_file(&rt, "sender.bin")?;
+    let own = read_file(&rt, "receiver.bin")?;
+    synchronise(&mut rt.stdout(), string.as_slice(), own.as_slice())?;
+    Ok(())
 }

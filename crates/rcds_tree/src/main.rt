@@ -1,32 +1,33 @@
-// Document 01's tree program: reads at most 16,384 bytes from standard input and prints each node's level, start and
-// length, with the settings w=2, p=2, L=1, M=2, q=64 built in.
-use libc::{STDIN_FILENO, STDOUT_FILENO};
+// The tree program: reads at most 16,384 bytes from standard input and prints each node's level, start and length, with the
+// settings w=2, p=2, L=1, M=2, q=64 built in.
+#![tactic(auto)]
+
+use std::io;
+use std::io::{BufWriter, Read, Write};
 use tree::Settings;
 
-fn print_node(nodes: &[u8], k: usize) {
-    io::print_decimal(STDOUT_FILENO, node_table::node_level(nodes, k));
-    io::write_all(STDOUT_FILENO, b" ");
-    io::print_decimal(STDOUT_FILENO, node_table::node_start(nodes, k));
-    io::write_all(STDOUT_FILENO, b" ");
-    io::print_decimal(STDOUT_FILENO, node_table::node_length(nodes, k));
-    io::write_all(STDOUT_FILENO, b"\n");
+fn print_node<W: Write>(out: &mut W, nodes: &[u8], k: usize) -> io::Result<()> {
+    let level = node_table::node_level(nodes, k);
+    let start = node_table::node_start(nodes, k);
+    let length = node_table::node_length(nodes, k);
+    writeln!(out, "{level} {start} {length}")
 }
 
 // Prints the nodes of a table, up to its first id 0.
-fn print_nodes(nodes: &[u8]) {
-    let mut k = 0;
-    while k < 4096 {
+fn print_nodes<W: Write>(out: &mut W, nodes: &[u8]) -> io::Result<()> {
+    for k in 0..4096 {
         if node_table::node_id(nodes, k) == 0 {
-            return;
+            return Ok(());
         }
-        print_node(nodes, k);
-        k += 1;
+        print_node(out, nodes, k)?;
     }
+    Ok(())
 }
 
-fn main() {
-    let mut string = [0u8; 16384];
-    let n = io::read_full(STDIN_FILENO, &mut string);
+fn main(rt: HostRuntime) -> io::Result<()> {
+    let alloc = rt.alloc();
+    let mut string = Vec::new(alloc);
+    rt.stdin().take(16384).read_to_end(&mut string)?;
     let mut nodes = [0u8; 65536];
     let settings = Settings {
         window: 2,
@@ -35,7 +36,9 @@ fn main() {
         nominal: 2,
         width: 64,
     };
-    tree::cut_string(settings, &string[..n], &mut nodes);
-    io::write_all(STDOUT_FILENO, b"level start length\n");
-    print_nodes(&nodes);
+    tree::cut_string(settings, string.as_slice(), &mut nodes);
+    let mut out = BufWriter::new(alloc, io::writer(&rt))?;
+    writeln!(out, "level start length")?;
+    print_nodes(&mut out, &nodes)?;
+    out.flush()
 }

@@ -1,4 +1,6 @@
 // A whole session between two strings that are both at hand.
+#![tactic(auto)]
+
 mod round;
 
 ghost use Rattle.std.specs.Prelude.{[]};

@@ -1,12 +1,13 @@
-// Prints the numbers that bytes are replaced by, in decimal, one a line from entry 0: document 02, request 12.
-use libc::STDOUT_FILENO;
+// Prints the numbers that bytes are replaced by, in decimal, one a line from entry 0.
+#![tactic(auto)]
 
-fn main() {
-    let table = spread::table();
-    let mut b = 0;
-    while b < 256 {
-        io::print_decimal(STDOUT_FILENO, table[b] as u64);
-        io::write_all(STDOUT_FILENO, b"\n");
-        b += 1;
+use std::io;
+use std::io::{BufWriter, Write};
+
+fn main(rt: HostRuntime) -> io::Result<()> {
+    let mut out = BufWriter::new(rt.alloc(), io::writer(&rt))?;
+    for entry in spread::table() {
+        writeln!(out, "{entry}")?;
     }
+    out.flush()
 }

@@ -1,4 +1,6 @@
 // Taking a message: 9, 10 and 11, then an opening or a node reply is taken.
+#![tactic(auto)]
+
 mod node_reply;
 mod opening_reply;
 

@@ -1,7 +1,8 @@
 // Strata: a string against one of another kind, or against itself with a byte in its middle changed.
 use crate::openings::change;
 use crate::{print_last, print_number, strings};
-use libc::STDOUT_FILENO;
+use std::io;
+use std::io::Write;
 
 // Sets a sender up for a string and builds its strata.
 fn describe(
@@ -53,7 +54,8 @@ fn describe_other(
 }
 
 // Estimates from the other string's strata and the own. A line with FNV-1a of the own strata and of the other's, and the call's answer.
-fn estimated_line(
+fn estimated_line<W: Write>(
+    out: &mut W,
     w: u64,
     p: u64,
     levels: u64,
@@ -61,7 +63,7 @@ fn estimated_line(
     width: u64,
     string: &[u8],
     other: &[u8],
-) {
+) -> io::Result<()> {
     let mut nodes = [0u8; 65536];
     let mut shingles = [0u8; 98304];
     let mut cells = [0u8; 7680];
@@ -82,11 +84,12 @@ fn estimated_line(
     );
     let mut theirs = [170u8; 7688];
     describe_other(w, p, levels, nominal, width, other, &mut theirs);
-    print_number(fnv::hash(&own));
-    print_number(fnv::hash(&theirs));
-    print_last(rcds::rcds_strata_estimate(
-        &state, string, &nodes, &shingles, &cells, &theirs, &own,
-    ));
+    print_number(out, fnv::hash(&own))?;
+    print_number(out, fnv::hash(&theirs))?;
+    print_last(
+        out,
+        rcds::rcds_strata_estimate(&state, string, &nodes, &shingles, &cells, &theirs, &own),
+    )
 }
 
 // Fills the other string, and changes it where it is of the same kind.
@@ -99,7 +102,8 @@ fn fill_other(kind: u64, other_kind: u64, other: &mut [u8]) {
 }
 
 // Fills both strings. The line begins with the settings, the two kinds and the length.
-fn string_line(
+fn string_line<W: Write>(
+    out: &mut W,
     w: u64,
     p: u64,
     levels: u64,
@@ -109,23 +113,24 @@ fn string_line(
     other_kind: u64,
     string: &mut [u8],
     other: &mut [u8],
-) {
+) -> io::Result<()> {
     strings::fill(kind, string);
     fill_other(kind, other_kind, other);
-    io::write_all(STDOUT_FILENO, b"strata ");
-    print_number(w);
-    print_number(p);
-    print_number(levels);
-    print_number(nominal);
-    print_number(width);
-    print_number(kind);
-    print_number(other_kind);
-    print_number(string.len() as u64);
-    estimated_line(w, p, levels, nominal, width, string, other);
+    out.write_all(b"strata ")?;
+    print_number(out, w)?;
+    print_number(out, p)?;
+    print_number(out, levels)?;
+    print_number(out, nominal)?;
+    print_number(out, width)?;
+    print_number(out, kind)?;
+    print_number(out, other_kind)?;
+    print_number(out, string.len() as u64)?;
+    estimated_line(out, w, p, levels, nominal, width, string, other)
 }
 
 // The line of two strings of n bytes, at most 20,000.
-fn line(
+fn line<W: Write>(
+    out: &mut W,
     w: u64,
     p: u64,
     levels: u64,
@@ -134,11 +139,12 @@ fn line(
     kind: u64,
     other_kind: u64,
     n: usize,
-) {
+) -> io::Result<()> {
     let mut string = [0u8; 20000];
     let mut other = [0u8; 20000];
     if n <= 20000 {
         string_line(
+            out,
             w,
             p,
             levels,
@@ -148,29 +154,45 @@ fn line(
             other_kind,
             &mut string[..n],
             &mut other[..n],
-        );
+        )?;
     }
+    Ok(())
 }
 
-fn kind_lines(w: u64, p: u64, levels: u64, nominal: u64, width: u64, n: usize) {
-    line(w, p, levels, nominal, width, 2, 2, n);
-    line(w, p, levels, nominal, width, 4, 4, n);
-    line(w, p, levels, nominal, width, 5, 5, n);
-    line(w, p, levels, nominal, width, 2, 3, n);
-    line(w, p, levels, nominal, width, 4, 2, n);
+fn kind_lines<W: Write>(
+    out: &mut W,
+    w: u64,
+    p: u64,
+    levels: u64,
+    nominal: u64,
+    width: u64,
+    n: usize,
+) -> io::Result<()> {
+    line(out, w, p, levels, nominal, width, 2, 2, n)?;
+    line(out, w, p, levels, nominal, width, 4, 4, n)?;
+    line(out, w, p, levels, nominal, width, 5, 5, n)?;
+    line(out, w, p, levels, nominal, width, 2, 3, n)?;
+    line(out, w, p, levels, nominal, width, 4, 2, n)
 }
 
-fn settings_lines(w: u64, p: u64, levels: u64, nominal: u64, width: u64) {
-    kind_lines(w, p, levels, nominal, width, 100);
-    kind_lines(w, p, levels, nominal, width, 4527);
-    kind_lines(w, p, levels, nominal, width, 20000);
+fn settings_lines<W: Write>(
+    out: &mut W,
+    w: u64,
+    p: u64,
+    levels: u64,
+    nominal: u64,
+    width: u64,
+) -> io::Result<()> {
+    kind_lines(out, w, p, levels, nominal, width, 100)?;
+    kind_lines(out, w, p, levels, nominal, width, 4527)?;
+    kind_lines(out, w, p, levels, nominal, width, 20000)
 }
 
 // All lines, and two whose setups are refused.
-pub fn lines() {
-    settings_lines(2, 2, 1, 2, 64);
-    settings_lines(4, 4, 3, 4096, 17);
-    settings_lines(2, 8, 4, 4096, 63);
-    line(2, 2, 1, 2, 65, 2, 2, 100);
-    line(2, 2, 5, 32, 64, 2, 2, 100);
+pub fn lines<W: Write>(out: &mut W) -> io::Result<()> {
+    settings_lines(out, 2, 2, 1, 2, 64)?;
+    settings_lines(out, 4, 4, 3, 4096, 17)?;
+    settings_lines(out, 2, 8, 4, 4096, 63)?;
+    line(out, 2, 2, 1, 2, 65, 2, 2, 100)?;
+    line(out, 2, 2, 5, 32, 64, 2, 2, 100)
 }

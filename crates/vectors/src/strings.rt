@@ -9,10 +9,7 @@ fn random_step(x: u64) -> u64 {
     let middle = high * 1284865837 % 4294967296
         + low * 1481765933 % 4294967296
         + product / 4294967296;
-    std::num::wrapping_add_u64(
-        middle % 4294967296 * 4294967296 + product % 4294967296,
-        1442695040888963407,
-    )
+    (middle % 4294967296 * 4294967296 + product % 4294967296).wrapping_add(1442695040888963407)
 }
 
 // Byte i of 12-bit samples in 16 bits, high byte first: a triangle of 1,000 samples between 0 and 4,000.
@@ -71,10 +68,8 @@ fn write_byte(string: &mut [u8], i: usize, kind: u64, x: u64) {
 // 5 with a random block of 37 bytes over and over, 6 with a ruler.
 pub fn fill(kind: u64, string: &mut [u8]) {
     let mut x = string.len() as u64 % 131072 * 8 + kind % 8;
-    let mut i = 0;
-    while i < string.len() {
+    for i in 0..string.len() {
         x = random_step(x);
         write_byte(string, i, kind, x);
-        i += 1;
     }
 }
