@@ -4,3 +4,5 @@
 // opening announces its string: proofs/Sending.antt. What two ends estimate of their difference: proofs/Estimating.antt. And a whole session
 // between two ends that are both at hand goes through: proofs/Session.antt. There is no code here: the calls are those of crates `rcds` and
 // `session`, whose promises the theorems are about.
+
+#![tactic(auto)]

@@ -5,19 +5,19 @@
 ghost use Rattle.std.specs.Prelude.{[], ◌≡◌, length};
 ghost use Rattle.crossing.specs.Crossing.{Crossed};
 ghost use Rattle.message.specs.Messages.{parse};
-ghost use Rattle.message.specs.Reading.{typeAnswer};
-ghost use Rattle.most_blocks.specs.Most.{mostAnswer};
+ghost use Rattle.message.specs.Reading.{type_answer};
+ghost use Rattle.most_blocks.specs.Most.{most_answer};
 ghost use Rattle.reply.specs.Reply.{Replied};
-ghost use Rattle.sender.specs.State.{settingsIn, SenderSetUp};
-ghost use Rattle.state_bytes.specs.Bytes.{stateIn};
+ghost use Rattle.sender.specs.State.{settings_in, SenderSetUp};
+ghost use Rattle.state_bytes.specs.Bytes.{state_in};
 ghost use Rattle.receiver.specs.Calls.{Asked};
 ghost use Rattle.held.specs.Held.{HeldSetUp, HeldTakes};
 ghost use Rattle.opening.specs.Opened.{Opened};
 ghost use Rattle.protocol.specs.Lent.{lent};
 ghost use Rattle.strata.specs.Calls.{Built, Estimated};
 ghost use Rattle.tree.specs.Table.{Tabled};
-ghost use Rattle.rcds.specs.Calls.{treeSettings, settingsOf};
-ghost use Rattle.rcds.specs.Trails.{trailNumberAnswer, Ordered};
+ghost use Rattle.rcds.specs.Calls.{tree_settings, settings_of_call};
+ghost use Rattle.rcds.specs.Trails.{trail_number_answer, Ordered};
 
 // Cuts a string into its tree of blocks and writes the tree to the node table. Asked are 1 to 4, 6, 7 of the node table, and 8.
 #[unsafe(no_mangle)]
@@ -29,7 +29,7 @@ pub extern "C" fn rcds_tree(
     string: &[u8],
     nodes: &mut [u8],
 ) -> u64
-    ensures { Tabled (treeSettings w p levels nominal) string.now nodes.old nodes.new result }
+    ensures { Tabled (tree_settings w p levels nominal) string.now nodes.old nodes.new result }
 {
     rcds::rcds_tree(w, p, levels, nominal, string, nodes)
 }
@@ -51,7 +51,7 @@ pub extern "C" fn rcds_crossed(
 // The most blocks that one cutting of n bytes gives. Asked is 24.
 #[unsafe(no_mangle)]
 pub extern "C" fn rcds_most_blocks(n: u64, w: u64, h: u64) -> u64
-    ensures { result ≡ mostAnswer n w h }
+    ensures { result ≡ most_answer n w h }
 {
     rcds::rcds_most_blocks(n, w, h)
 }
@@ -60,7 +60,7 @@ pub extern "C" fn rcds_most_blocks(n: u64, w: u64, h: u64) -> u64
 // where it is the only one; or 17.
 #[unsafe(no_mangle)]
 pub extern "C" fn rcds_trail_number(ids: &[u8]) -> u64
-    ensures { result ≡ trailNumberAnswer ids.now }
+    ensures { result ≡ trail_number_answer ids.now }
 {
     rcds::rcds_trail_number(ids)
 }
@@ -77,7 +77,7 @@ pub extern "C" fn rcds_trail_order(pairs: &[u8], number: u64, ids: &mut [u8]) ->
 // The type of a well-formed message, 2^32 more, or 10.
 #[unsafe(no_mangle)]
 pub extern "C" fn rcds_message_type(message: &[u8]) -> u64
-    ensures { result ≡ typeAnswer (parse message.now) }
+    ensures { result ≡ type_answer (parse message.now) }
 {
     rcds::rcds_message_type(message)
 }
@@ -96,7 +96,7 @@ pub extern "C" fn rcds_sender_setup(
     cells: &mut [u8],
     state: &mut [u8],
 ) -> u64
-    ensures { SenderSetUp (settingsOf window fan_out levels nominal width) string.now nodes.old nodes.new
+    ensures { SenderSetUp (settings_of_call window fan_out levels nominal width) string.now nodes.old nodes.new
         shingles.old shingles.new cells.old cells.new state.old state.new result }
 {
     rcds::rcds_sender_setup(
@@ -115,7 +115,7 @@ pub extern "C" fn rcds_reply(
     message: &[u8],
     out: &mut [u8],
 ) -> u64
-    ensures { Replied (settingsIn state.now) string.now nodes.now shingles.now
+    ensures { Replied (settings_in state.now) string.now nodes.now shingles.now
         cells.now message.now out.old out.new result }
 {
     rcds::rcds_reply(state, string, nodes, shingles, cells, message, out)
@@ -136,7 +136,7 @@ pub extern "C" fn rcds_receiver_setup(
     cells: &mut [u8],
     state: &mut [u8],
 ) -> u64
-    ensures { HeldSetUp (settingsOf window fan_out levels nominal width) session own.now nodes.old nodes.new
+    ensures { HeldSetUp (settings_of_call window fan_out levels nominal width) session own.now nodes.old nodes.new
         shingles.old shingles.new cells.old cells.new state.old state.new result }
 {
     rcds::rcds_receiver_setup(
@@ -154,7 +154,7 @@ pub extern "C" fn rcds_query(
     cells: &[u8],
     out: &mut [u8],
 ) -> u64
-    ensures { Asked (stateIn state.now) own.now nodes.now shingles.now cells.now
+    ensures { Asked (state_in state.now) own.now nodes.now shingles.now cells.now
         out.old out.new result }
 {
     rcds::rcds_query(state, own, nodes, shingles, cells, out)
@@ -201,7 +201,7 @@ pub extern "C" fn rcds_strata_build(
     cells: &[u8],
     strata: &mut [u8],
 ) -> u64
-    ensures { Built (settingsIn state.now) (lent string.now nodes.now shingles.now
+    ensures { Built (settings_in state.now) (lent string.now nodes.now shingles.now
         cells.now []) strata.old strata.new result }
 {
     rcds::rcds_strata_build(state, string, nodes, shingles, cells, strata)
@@ -218,7 +218,7 @@ pub extern "C" fn rcds_strata_estimate(
     theirs: &[u8],
     own: &[u8],
 ) -> u64
-    ensures { Estimated (settingsIn state.now) (lent string.now nodes.now shingles.now
+    ensures { Estimated (settings_in state.now) (lent string.now nodes.now shingles.now
         cells.now []) theirs.now own.now result }
 {
     rcds::rcds_strata_estimate(state, string, nodes, shingles, cells, theirs, own)
