@@ -14,7 +14,7 @@ use Rattle.setup.specs.Questions.{setup_refusal, tables_fit}
 use Rattle.setup.specs.Tables.{node_front, shingle_front, cell_front, setup_table}
 use Rattle.setup.proofs.Questions.{lent_small}
 use Rattle.setup.proofs.Accepted.{yes_answer, other_after_yes, setup_passed}
-use Rattle.message.specs.Fields.{Every as All}
+use Rattle.message.specs.Fields.{Every as Throughout}
 use Rattle.message.specs.Messages.{Msg, opening_query, Parts, Valid, encode, parse}
 use Rattle.message.proofs.Messages.{parse-encode, encode-parse}
 use Rattle.protocol.specs.Lent.{Lent, lent, refused_by}
@@ -135,7 +135,7 @@ module _ (σ : Settings) (string nodes nodes' shingles shingles' cells cells' st
     replies : reply_to τ (left_by_setup σ m) query ≡ some x
     bytes : out ≡ encode x
 
-  said : (τ : Settings) (message buffer buffer' : List ℕ) (k : ℕ) → All (λ b. b < 256) message
+  said : (τ : Settings) (message buffer buffer' : List ℕ) (k : ℕ) → Throughout (λ b. b < 256) message
       → Replied τ string nodes' shingles' cells' message buffer buffer' k → 2 ^ 32 ≤ k → Said τ message (take (k - 2 ^ 32) buffer')
   said τ message buffer buffer' k bytes-in replied written =
       let w = reply τ (left_by_setup σ m) message buffer in

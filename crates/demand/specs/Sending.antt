@@ -6,7 +6,7 @@ use Rattle.std.proofs.Math.Option.{Option, some}
 use Rattle.tree.specs.declared.Settings.{Settings}
 use Rattle.message.specs.Words.{Ref}
 use Rattle.message.specs.Messages.{Msg, opening_query, composition, parse}
-use Rattle.message.specs.Fields.{Every as All}
+use Rattle.message.specs.Fields.{Every as Throughout}
 use Rattle.protocol.specs.Calls.{Every}
 use Rattle.protocol.specs.Genuine.{ServesOneString, GenuineReply}
 use Rattle.protocol.specs.Demand.{Announces}
@@ -21,7 +21,7 @@ pub record IsMessage (bytes : List ℕ) : Type 0 where
 abbrev pub MessageOfCalls : Type 0
 MessageOfCalls =
     (state string nodes shingles cells message buffer buffer' : List ℕ) (k : ℕ) → Every (λ b. b < 256) string → Every (λ b. b < 256) nodes
-    → Every (λ b. b < 256) cells → All (λ b. b < 256) message
+    → Every (λ b. b < 256) cells → Throughout (λ b. b < 256) message
     → Replied (settings_in state) string nodes shingles cells message buffer buffer' k → 2 ^ 32 ≤ k
     → IsMessage (take (k - 2 ^ 32) buffer')
 
@@ -30,7 +30,7 @@ abbrev pub OwnOpeningOfCalls : Type 0
 OwnOpeningOfCalls =
     (σ : Settings) (string nodes nodes' shingles shingles' cells cells' state state' : List ℕ) (r : ℕ)
     → SenderSetUp σ string nodes nodes' shingles shingles' cells cells' state state' r → 2 ^ 32 ≤ r
-    → (any message buffer buffer' : List ℕ) (session k : ℕ) → All (λ b. b < 256) message → parse message ≡ some (opening_query session)
+    → (any message buffer buffer' : List ℕ) (session k : ℕ) → Throughout (λ b. b < 256) message → parse message ≡ some (opening_query session)
     → Replied (settings_in any) string nodes' shingles' cells' message buffer buffer' k → 2 ^ 32 ≤ k
     → Announces string (take (k - 2 ^ 32) buffer')
 
@@ -45,7 +45,7 @@ abbrev pub GenuineOfCalls : Type 0
 GenuineOfCalls =
     (σ : Settings) (string nodes nodes' shingles shingles' cells cells' state state' : List ℕ) (r : ℕ) → Every (λ b. b < 256) string
     → SenderSetUp σ string nodes nodes' shingles shingles' cells cells' state state' r → 2 ^ 32 ≤ r
-    → (message buffer buffer' : List ℕ) (k : ℕ) → All (λ b. b < 256) message
+    → (message buffer buffer' : List ℕ) (k : ℕ) → Throughout (λ b. b < 256) message
     → Replied (settings_in state') string nodes' shingles' cells' message buffer buffer' k → 2 ^ 32 ≤ k
     → RepliesTo σ string message (take (k - 2 ^ 32) buffer')
 

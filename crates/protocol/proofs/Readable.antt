@@ -20,7 +20,7 @@ use Rattle.single.specs.Peeling.{rows_in}
 use Rattle.setup.proofs.Questions.{Lent as Passed, lent as lent_passed}
 use Rattle.message.specs.Words.{plain}
 use Rattle.message.specs.Fields.{one, value, values, values_to}
-use Rattle.message.specs.Fields.{Every as All}
+use Rattle.message.specs.Fields.{Every as Throughout}
 use Rattle.message.specs.Messages.{Msg, opening_query, node_query, opening, composition, literal, no_node, cell_values, headed, words_then, size_of, Parts, Valid}
 use Rattle.protocol.specs.Lent.{Lent, refused_by}
 use Rattle.node_table.specs.declared.Entry.{Entry}
@@ -57,7 +57,7 @@ id_small t h k = go (ltb k (length t / 16))
     go true = row_small t h (k * 2)
     go false = omega arith
 
-along_small : (n i : ℕ) (f : ℕ → ℕ) → ((k : ℕ) → f k < 2 ^ 64) → All (λ x. x < 2 ^ 64) (along n i f)
+along_small : (n i : ℕ) (f : ℕ → ℕ) → ((k : ℕ) → f k < 2 ^ 64) → Throughout (λ x. x < 2 ^ 64) (along n i f)
 unfolding along
 along_small zero i f h = tt
 along_small (suc n) i f h = (h i, along_small n (suc i) f h)

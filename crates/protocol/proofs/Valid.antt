@@ -34,7 +34,7 @@ use Rattle.trail.specs.Calls.{numberable}
 use Rattle.trail.proofs.Answers.{number_small}
 use Rattle.message.specs.Words.{Ref, plain, number_word, reference_word}
 use Rattle.message.specs.Fields.{one, value, values, values_to, many, many_to, maybe_to, MaybeFits, maybe, only, rising, text, text_to}
-use Rattle.message.specs.Fields.{Every as All}
+use Rattle.message.specs.Fields.{Every as Throughout}
 use Rattle.message.specs.Messages.{Msg, opening_query, node_query, opening, composition, literal, no_node, cell_values, headed, words_then, size_of, Parts, Valid}
 use Rattle.message.proofs.Rising.{rising_from, rising_from_zero}
 use Rattle.protocol.specs.Numbers.{stated}
@@ -59,7 +59,7 @@ module _ (l : ℕ) (ids : List ℕ) where
   abbrev times : Shingle → ℕ
   times s = how_many (pair_of s) (pairs_along l 0 ids)
 
-  refs_narrow : length ids ≤ 32 → (i : ℕ) (ss : List Shingle) → indexed (refs_from i ss l ids) ≡ true → All reference_word.Fits (refs_from i ss l ids)
+  refs_narrow : length ids ≤ 32 → (i : ℕ) (ss : List Shingle) → indexed (refs_from i ss l ids) ≡ true → Throughout reference_word.Fits (refs_from i ss l ids)
   unfolding refs_from
   refs_narrow few i [] h = tt
   refs_narrow few i (s ∷ ss) h = go (times s) times-few h (refs_narrow few (suc i) ss)
@@ -68,8 +68,8 @@ module _ (l : ℕ) (ids : List ℕ) where
       times-few = omega (arith, few, how_many_few (pair_of s) (pairs_along l 0 ids), length_along l 0 ids)
 
       go : (n : ℕ) → n ≤ 32 → indexed (refer i n (refs_from (suc i) ss l ids)) ≡ true
-          → (indexed (refs_from (suc i) ss l ids) ≡ true → All reference_word.Fits (refs_from (suc i) ss l ids))
-          → All reference_word.Fits (refer i n (refs_from (suc i) ss l ids))
+          → (indexed (refs_from (suc i) ss l ids) ≡ true → Throughout reference_word.Fits (refs_from (suc i) ss l ids))
+          → Throughout reference_word.Fits (refer i n (refs_from (suc i) ss l ids))
       go zero k low rest = unfold refer in rest low
       go (suc n) k low rest =
           unfold refer indexed reference_word in
@@ -100,11 +100,11 @@ references_rise list l ids = rising_from_zero (refs_from 0 list l ids) ∙ refs_
 
 -- References to a list are within their fields if each index is.
 pub references_fit : (list : List Shingle) (l : ℕ) (ids : List ℕ) → length ids ≤ 32 → indexed (refs_of list l ids) ≡ true
-    → (All reference_word.Fits (refs_of list l ids)) × (rising (refs_of list l ids) ≡ true)
+    → (Throughout reference_word.Fits (refs_of list l ids)) × (rising (refs_of list l ids) ≡ true)
 references_fit list l ids few low = (unfold refs_of in refs_narrow l ids few 0 list low, references_rise list l ids)
 
 -- The values of cells.
-cells_fit : (n i : ℕ) (f : ℕ → ℕ) → All (λ x. x < 2 ^ 64) (along n i (λ (k : ℕ). f k % 2 ^ 64))
+cells_fit : (n i : ℕ) (f : ℕ → ℕ) → Throughout (λ x. x < 2 ^ 64) (along n i (λ (k : ℕ). f k % 2 ^ 64))
 unfolding along
 cells_fit zero i f = tt
 cells_fit (suc n) i f = (mod-lt (f i) (omega arith), cells_fit n (suc i) f)
@@ -129,7 +129,7 @@ every_drop P (suc n) [] h = tt
 every_drop P (suc n) (x ∷ l) h = every_drop P n l h.1
 
 pub record Printable (n : ℕ) (bytes : List ℕ) : Type 0 where
-  pub bytes_fit : All (λ b. b < 256) bytes
+  pub bytes_fit : Throughout (λ b. b < 256) bytes
   pub short : length bytes ≤ n
 
 blocks_printable : (string : List ℕ) → Every (λ (b : ℕ). b < 256) string → {ns : List Node} → Each (λ n. Within string n.start n.bytes) ns
@@ -138,7 +138,7 @@ unfolding Every
 blocks_printable string h Each-none = tt
 blocks_printable string h (Each-both {n = n} w ws) = (
   record {
-    bytes_fit = subst (All (λ b. b < 256)) w.same (all_take _ (length n.bytes) (drop n.start string) (every_drop _ n.start string h));
+    bytes_fit = subst (Throughout (λ b. b < 256)) w.same (all_take _ (length n.bytes) (drop n.start string) (every_drop _ n.start string h));
     short = omega (arith, w.inside);
   },
   blocks_printable string h ws,

@@ -2,10 +2,10 @@
 // output is what tests/reference prints; its program reference-vectors says the format.
 #![tactic(auto)]
 
-mod most_blocks;
+mod estimates;
+mod most;
 mod openings;
 mod ranges;
-mod strata;
 mod strings;
 
 use std::io;
@@ -301,7 +301,7 @@ fn main(rt: HostRuntime) -> io::Result<()> {
     ruler_setup_lines(&mut out)?;
     openings::lines(&mut out)?;
     ranges::lines(&mut out)?;
-    strata::lines(&mut out)?;
-    most_blocks::lines(&mut out)?;
+    estimates::lines(&mut out)?;
+    most::lines(&mut out)?;
     out.flush()
 }
