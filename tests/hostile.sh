@@ -29,7 +29,7 @@ last=target/hostile.case
 
 mkdir -p target
 if [ -z "${RCDS_LIB:-}" ] && [ ! -f target/staticlib/librcds.a ]; then
-    rt staticlib rcds > target/staticlib.log 2>&1 || { tail -n 20 target/staticlib.log; exit 1; }
+    tests/archive.sh
 fi
 cargo build --release --offline --quiet --manifest-path $package/Cargo.toml --target-dir $package/target --bin conformance
 

@@ -3,7 +3,7 @@
 use reference::cell_table;
 use reference::fnv::fnv1a;
 use reference::lent::Lent;
-use reference::opening::{closed, difference, takings, true_difference, Closed, Taken};
+use reference::opening::{closed, difference, takings, Closed};
 use reference::rcds::{
     rcds_receiver_setup, rcds_strata_build, rcds_strata_estimate, rcds_take, ACCEPTED,
 };
@@ -14,7 +14,6 @@ use reference::strata::{
     build, estimate, of_stratum, open, read, stratum, write, CHECKS_0, CHECKS_2_63, TABLE_BYTES,
 };
 use reference::{receiver_state, sender, shingle_table, vectors};
-use std::collections::BTreeSet;
 
 const SETTINGS: Settings = Settings {
     window: 2,
@@ -508,11 +507,32 @@ fn the_largest_estimate() {
     assert_eq!(estimated(&strata, &none, &[]), 4 * 32_768);
 }
 
+/// Shingles and whether they are negative, sorted.
+type Signed = Vec<(Shingle, bool)>;
+
+/// "what the sender's shingle list has and the own lacks, as positive, and the reverse, as negative", of one
+/// stratum.
+fn true_difference(i: usize, theirs: &[Shingle], own: &[Shingle]) -> Signed {
+    let mut signed = Vec::new();
+    for (list, other, negative) in [(theirs, own, false), (own, theirs, true)] {
+        let lacking = |shingle: &Shingle| !other.contains(shingle);
+        let of_stratum = of_stratum(list, i).into_iter();
+        signed.extend(of_stratum.filter(lacking).map(|one| (one, negative)));
+    }
+    signed.sort();
+    signed
+}
+
 /// The shingles that a stratum of two lists' strata lists, if it opens.
-fn listed(i: usize, theirs: &[Shingle], own: &[Shingle]) -> Option<BTreeSet<Taken>> {
+fn listed(i: usize, theirs: &[Shingle], own: &[Shingle]) -> Option<Signed> {
     let (of_theirs, of_own) = (build(theirs), build(own));
     let taken = open(i, SETTINGS.levels, &of_theirs[i], &of_own[i], own).ok()?;
-    Some(taken.into_iter().collect())
+    let mut signed: Signed = taken
+        .iter()
+        .map(|one| (one.shingle, one.negative))
+        .collect();
+    signed.sort();
+    Some(signed)
 }
 
 /// Where every stratum opens to its true difference, the estimate is the number of differing shingles.
@@ -524,8 +544,7 @@ fn a_true_difference() {
         let (new, gone) = (k % 5, k % 4);
         let theirs = &all[4 * k..4 * k + 50];
         let own = &all[4 * k + new..4 * k + 50 + gone];
-        let differing = |i: usize| true_difference(&of_stratum(theirs, i), &of_stratum(own, i));
-        let is_true = |i: usize| listed(i, theirs, own) == Some(differing(i));
+        let is_true = |i: usize| listed(i, theirs, own) == Some(true_difference(i, theirs, own));
         if !(0..16).all(is_true) {
             others += 1;
             continue;

@@ -5,7 +5,6 @@ use crate::random::Random;
 use crate::settings::any_allowed;
 #[cfg(test)]
 use reference::cell_table::{self, CELL_BYTES};
-use reference::opening::true_difference;
 use reference::shingle::{shingles, Shingle};
 use reference::shingle_table::entry;
 use reference::sketch::{part, places, Cell};
@@ -93,13 +92,15 @@ pub fn of_strings(random: &mut Random) -> (u64, Vec<Shingle>, Vec<Shingle>) {
     (settings.levels, of(&own), of(&theirs))
 }
 
-/// The true difference of two lists.
+/// What one list has and the other lacks, as positive, and the reverse, as negative.
 pub fn difference(own: &[Shingle], theirs: &[Shingle]) -> Vec<Signed> {
-    let times = |negative: bool| if negative { MINUS } else { 1 };
-    let differing = true_difference(theirs, own).into_iter();
-    differing
-        .map(|one| (one.shingle, times(one.negative)))
-        .collect()
+    let lacking = |all: &[Shingle], other: &[Shingle]| -> Vec<Shingle> {
+        let other: BTreeSet<&Shingle> = other.iter().collect();
+        all.iter().filter(|s| !other.contains(s)).copied().collect()
+    };
+    let positive = lacking(theirs, own).into_iter().map(|s| (s, 1));
+    let negative = lacking(own, theirs).into_iter().map(|s| (s, MINUS));
+    positive.chain(negative).collect()
 }
 
 /// Adds what a shingle's cells get, so often, to one cell.
