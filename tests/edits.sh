@@ -23,7 +23,7 @@ at_once=${JOBS:-$(nproc)}
 
 room=$(mktemp -d)
 trap 'rm -rf "$room"' EXIT
-mkdir -p "$room/base/crates" "$room/said"
+mkdir -p "$room/base/crates" "$room/kept" "$room/said"
 
 # What is said of a file goes to a file of its own, since several are tried at once.
 say() { echo "$2" >> "$room/said/$1"; }
@@ -37,7 +37,7 @@ beside() {
 # A check of the crate NAME in the folder, to a log. It proves nothing that stands in its out/.
 check() { (cd "$1/crates/$2" && rt check --jobs 1) > "$3" 2>&1; }
 
-# The crates as they stand, in which those below are built and each named one is checked.
+# The crates as they stand. Each named one is checked there, over the libraries below it; what that kept is set aside for its edits.
 cp crates.txt "$room/base"
 for crate in crates/*/; do
     mkdir "$room/base/$crate"
@@ -50,15 +50,13 @@ stands() {
     check "$room/base" "$1" "$tried/$1/.log" || say "$1" "crates/$1: it is not proved as it stands: $tried/$1/.log"
 }
 
-# The crate NAME in a folder of its own, with what its check kept, over the crates below as they stand.
+# The crates in a folder of their own, the crate NAME to be written to, with what its check kept, and the libraries as built.
 copied() {
-    local from=$room/base/crates/$1 to=$2/crates/$1
-    mkdir -p "$2/crates"
-    cp "$room/base/crates.txt" "$2"
-    ln -s "$room"/base/crates/* "$2/crates"
-    rm "$to"
-    mkdir "$to"
-    cp -R "$from"/* "$to"
+    cp -Rl "$room/base" "$2"
+    rm -r "$2/crates/$1"
+    cp -R "$room/base/crates/$1" "$2/crates"
+    mkdir -p "$2/crates/$1/out"
+    cp -R "$room/kept/$1" "$2/crates/$1/out/incremental"
 }
 
 # Applies a part to the crate in the folder.
@@ -130,6 +128,9 @@ for name; do
     beside stands "$name"
 done
 wait
+for name; do
+    mv "$room/base/crates/$name/out/incremental" "$room/kept/$name"
+done
 for name; do
     crate=crates/$name
     parts=$(cat "$crate"/must-fail/*.edit)
