@@ -129,7 +129,7 @@ for name; do
 done
 wait
 for name; do
-    mv "$room/base/crates/$name/out/incremental" "$room/kept/$name"
+    [ -e "$room/said/$name" ] || mv "$room/base/crates/$name/out/incremental" "$room/kept/$name"
 done
 for name; do
     crate=crates/$name
@@ -149,7 +149,7 @@ for name; do
         for place in "${places[@]}"; do
             [ -f "$crate/$place" ] || grep -q "^fn $place: " "$tried/$name/.log" || say "$name" "$edit: there is no $place"
         done
-        beside try "$name" "$edit"
+        [ ! -d "$room/kept/$name" ] || beside try "$name" "$edit"
     done
 done
 wait
