@@ -116,7 +116,7 @@ length_values [] = refl
 length_values (x ∷ xs) = let e = length_values xs in omega (arith, e)
 
 -- The bytes of blocks.
-pub all_take : (P : ℕ → Type 0) (n : ℕ) (l : List ℕ) → Every P l → All P (take n l)
+pub all_take : (P : ℕ → Type 0) (n : ℕ) (l : List ℕ) → Every P l → Throughout P (take n l)
 unfolding Every
 all_take P zero l h = tt
 all_take P (suc n) [] h = tt

@@ -1,0 +1,2 @@
+-- A law of the tables that are lent in part.
+pub mod Fronts
