@@ -4,12 +4,11 @@
 usage: answers.py CRATE_FOLDER NAMES_JSON [FUNCTION ..]
 
 NAMES_JSON is what `rt check --generated DIR --old-names` writes for the crate: each goal's and each step's old and new name. An answer that is
-only a search goes, since the check tries that itself. What has no new name is kept as a comment, to be looked at by hand.
+only a search goes, since the check tries that itself. What has no new name is printed, to be done by hand.
 """
 import json
 import os
 import re
-import subprocess
 import sys
 
 NAME = r"[^\s(){}.;,@\"\[\]\\]+"
@@ -263,7 +262,6 @@ class Turner:
             return m.group(0) if re.search(r"!" + re.escape(x) + r"\.\w+\b(?!\()", SOURCES[0]) else m.group(1)
         t = re.sub(r"\(not-(?:true|false) _ (c\.if-not-[\w-]+\.(?:true|false))\)", plain, t)
         t = re.sub(r"not-(?:true|false) _ (c\.if-not-[\w-]+\.(?:true|false))", plain, t)
-        t = re.sub(r"not-(?:true|false) _ (c\.[\w-]*-test\.(?:true|false))", r"\1", t) if False else t
         return t
 
 
@@ -488,8 +486,7 @@ def convert(folder, crate, path, f, say):
     if inv and helpers and not ans:
         say(f"{path}: helpers without answers")
     if left:
-        with open("/tmp/left-" + crate + ".txt", "a", encoding="utf-8") as it:
-            it.write(f"== {path}\n" + body_of(left) + "\n\n")
+        say(f"{path}: left to be done by hand:\n" + body_of(left))
     os.remove(proof)
 
 
@@ -574,7 +571,7 @@ def cycle(folder, crate, path, fs, say):
         if parts:
             with open(os.path.join(base, fname), "w", encoding="utf-8") as it:
                 it.write("\n".join((head if given == "Given" else []) + uses + [f"use {mod}.{given} as goal"]) + "\n\n" + body_of(parts) + "\n")
-    os.rename(os.path.join(base, "Proof.antt"), os.path.join("/tmp", crate + "-cycle-Proof.txt"))
+    os.remove(os.path.join(base, "Proof.antt"))
 
 
 def main():
