@@ -6,58 +6,63 @@ ghost use Rattle.node_table.specs.Entries.{entry_at};
 ghost use Rattle.crossing.specs.Crossing.{crosses, crossing, crossing_bytes, Crossed};
 ghost use Rattle.crossing.specs.Steps.{Noted};
 
-// Whether entry k lies in the string of n bytes and shares a byte with the range.
-fn crosses(nodes: &[u8], n: usize, start: u64, size: u64, k: usize) -> bool
-    requires { start + size ≤ n }
-    ensures { result ≡ crosses n start size (entry_at nodes.now k) }
+// The size in bytes of an entry of a node table.
+const ENTRY: usize = 16;
+
+// The size in bytes of a pair, two rows.
+const PAIR: usize = 16;
+
+// What an answer adds to the number of nodes.
+const FOUND: u64 = 4294967296;
+
+// A range of a string of so many bytes, which ends by the string's end.
+#[derive(Clone, Copy)]
+struct Span {
+    string: usize,
+    start: u64,
+    size: u64,
+    ghost inside: { start + size ≤ string },
+}
+
+// Whether entry k lies in the string and shares a byte with the range.
+fn crosses(nodes: &[u8], span: Span, k: usize) -> bool
+    ensures { result ≡ crosses span.string span.start span.size (entry_at nodes.now k) }
 {
     let first = node_table::node_start(nodes, k);
     let past = first + node_table::node_length(nodes, k);
-    let end = start + size;
-    let low = if start < first { first } else { start };
-    let high = if end < past { end } else { past };
+    let end = span.start + span.size;
+    let low = span.start.max(first);
+    let high = end.min(past);
     if high <= low {
         return false;
     }
-    node_table::lies_inside(nodes, n, k)
+    node_table::lies_inside(nodes, span.string, k)
 }
 
 // How many nodes the range crosses.
-fn count(nodes: &[u8], n: usize, start: u64, size: u64) -> usize
-    requires { start + size ≤ n }
-    ensures { result ≡ length (crossing n start size nodes.now) }
+fn count(nodes: &[u8], span: Span) -> usize
+    ensures { result ≡ length (crossing span.string span.start span.size nodes.now) }
 {
-    let entries = nodes.len() / 16;
-    let mut k = 0;
+    let entries = nodes.len() / ENTRY;
     let mut found = 0;
-    while k < entries {
+    for k in 0..entries {
         if node_table::node_id(nodes, k) == 0 {
             return found;
         }
-        if crosses(nodes, n, start, size, k) {
+        if crosses(nodes, span, k) {
             found += 1;
         }
-        k += 1;
     }
     found
 }
 
 // Writes entry k as pair number `at` of the table, if the range crosses it. The answer is how many pairs there are then.
-fn note(
-    nodes: &[u8],
-    n: usize,
-    start: u64,
-    size: u64,
-    k: usize,
-    table: &mut [u8],
-    at: usize,
-) -> usize
-    requires size_bound { start + size ≤ n }
+fn note(nodes: &[u8], span: Span, k: usize, table: &mut [u8], at: usize) -> usize
     requires at_le_k { at ≤ k }
     requires k_in_bounds { k < length nodes.now / 16 }
-    ensures { Noted n start size nodes.now k table.old table.new at result }
+    ensures { Noted span.string span.start span.size nodes.now k table.old table.new at result }
 {
-    if crosses(nodes, n, start, size, k) {
+    if crosses(nodes, span, k) {
         rows::store(table, at * 2, k as u64);
         let parent = node_table::node_parent(nodes, k);
         rows::store(table, at * 2 + 1, parent);
@@ -67,20 +72,17 @@ fn note(
 }
 
 // The nodes that the range crosses, written from the front of the table on.
-fn write(nodes: &[u8], n: usize, start: u64, size: u64, table: &mut [u8])
-    requires size_bound { start + size ≤ n }
-    requires nodes_in_bounds { 16 * length (crossing n start size nodes.now) ≤ length table.old }
-    ensures { table.new ≡ crossing_bytes (crossing n start size nodes.now) ++ drop (16 * length (crossing n start size nodes.now)) table.old }
+fn write(nodes: &[u8], span: Span, table: &mut [u8])
+    requires { 16 * length (crossing span.string span.start span.size nodes.now) ≤ length table.old }
+    ensures { table.new ≡ crossing_bytes (crossing span.string span.start span.size nodes.now) ++ drop (16 * length (crossing span.string span.start span.size nodes.now)) table.old }
 {
-    let entries = nodes.len() / 16;
-    let mut place = 0;
+    let entries = nodes.len() / ENTRY;
     let mut at = 0;
-    while place < entries {
+    for place in 0..entries {
         if node_table::node_id(nodes, place) == 0 {
             return;
         }
-        at = note(nodes, n, start, size, place, table, at);
-        place += 1;
+        at = note(nodes, span, place, table, at);
     }
 }
 
@@ -99,10 +101,15 @@ pub fn crossed(string: &[u8], nodes: &[u8], start: u64, size: u64, table: &mut [
     if left < size {
         return 21;
     }
-    let found = count(nodes, n, start, size);
-    if table.len() / 16 < found {
+    let span = Span {
+        string: n,
+        start,
+        size,
+    };
+    let found = count(nodes, span);
+    if table.len() / PAIR < found {
         return 22;
     }
-    write(nodes, n, start, size, table);
-    4294967296 + found as u64
+    write(nodes, span, table);
+    FOUND + found as u64
 }

@@ -1,30 +1,9 @@
--- Laws of FNV-1a: the product by halves, and that a block's id is never 0 and has 64 bits.
-use mathlib.Core.Bool.{Bool, true, false, cond}
-use mathlib.Core.Path.{◌≡◌, refl, sym, ap, ◌∙◌}
-use mathlib.Core.List.{List, [], ◌∷◌}
-use mathlib.Core.Logic.{◌≢◌}
-use Prim.Native.Nat.{ℕ, ◌+◌, ◌*◌, ◌/◌, ◌%◌, ◌<◌}
+-- Laws of FNV-1a: a block's id is never 0 and has 64 bits.
+use Rattle.std.proofs.Common.{Bool, true, false, cond, List, [], ◌∷◌, ◌≡◌, ◌≢◌, refl, ℕ, ◌<◌, arith}
 use native.Mathlib.Nat.{mod-lt}
-use native.Mathlib.Omega.{arith}
 use borrow.Author.Tests.{eqb-false}
-use lib.Arith.{digits_mod}
 use lib.Dec.{eqb}
-use Rattle.fnv.specs.Fnv.{prime_multiple, next_hash, hash_onward, hash_of, id_of_block}
-
--- The product with FNV's prime, 256 * 2^32 + 435, worked out by halves.
-module _ (x : ℕ) where
-  abbrev product : ℕ
-  product = x % 4294967296 * 435
-
-  abbrev middle : ℕ
-  middle = x / 4294967296 * 435 + x % 4294967296 * 256 + product / 4294967296
-
-  pub by_halves : middle % 4294967296 * 4294967296 + product % 4294967296 ≡ prime_multiple x
-  by_halves =
-      let whole :
-      x * 1099511628211 ≡ (x / 4294967296 * 256 + middle / 4294967296) * 18446744073709551616
-      + (middle % 4294967296 * 4294967296 + product % 4294967296) = omega arith in
-      sym (ap (λ (n : ℕ). n % 18446744073709551616) whole ∙ digits_mod _ (omega arith))
+use Rattle.fnv.specs.Fnv.{next_hash, hash_onward, hash_of, id_of_block}
 
 id_nonzero : (h : ℕ) (t : Bool) → eqb h 0 ≡ t → cond t 1 h ≢ 0
 id_nonzero h true e z = omega arith

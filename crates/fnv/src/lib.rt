@@ -7,23 +7,22 @@ ghost use Rattle.fnv.specs.Fnv.{prime_multiple, next_hash, hash_onward, hash_of,
 // FNV-1a's value of no bytes.
 const BASIS: u64 = 14695981039346656037;
 
-// x times FNV's prime, 256 * 2^32 + 435, modulo 2^64: the product of the two halves of x with the two parts of the
-// prime, without what lies above 2^64.
+// FNV's prime, 256 * 2^32 + 435.
+const PRIME: u64 = 1099511628211;
+
+// x times FNV's prime, modulo 2^64.
 fn times_prime(x: u64) -> u64
     ensures { result ≡ prime_multiple x }
 {
-    let high = x / 4294967296;
-    let low = x % 4294967296;
-    let product = low * 435;
-    let middle = high * 435 + low * 256 + product / 4294967296;
-    middle % 4294967296 * 4294967296 + product % 4294967296
+    x.wrapping_mul(PRIME)
 }
 
 // The hash h, going on with the byte b.
+#[tactic(auto, unfolding(crate::specs::Fnv::next_hash))]
 pub fn hash_step(h: u64, b: u8) -> u64
     ensures { result ≡ next_hash h b }
 {
-    times_prime(b as u64 ^ h)
+    times_prime(u64::from(b) ^ h)
 }
 
 // The hash h, going on with all of the bytes.
@@ -31,10 +30,8 @@ pub fn hash_from(h: u64, bytes: &[u8]) -> u64
     ensures { result ≡ hash_onward h bytes.now }
 {
     let mut value = h;
-    let mut i = 0;
-    while i < bytes.len() {
-        value = hash_step(value, bytes[i]);
-        i += 1;
+    for byte in bytes {
+        value = hash_step(value, *byte);
     }
     value
 }
@@ -47,6 +44,7 @@ pub fn hash(bytes: &[u8]) -> u64
 }
 
 // The id of a block with these bytes: their hash, or 1 where that is 0.
+#[tactic(auto, unfolding(crate::specs::Fnv::id_of_block))]
 pub fn block_id(bytes: &[u8]) -> u64
     ensures { result ≡ id_of_block bytes.now }
 {

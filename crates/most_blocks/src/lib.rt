@@ -24,37 +24,21 @@ const LONGEST_STRING: u64 = 65536;
 fn in_range(n: u64, w: u64, h: u64) -> bool
     ensures { result ≡ in_range n w h }
 {
-    if w < SHORTEST_WINDOW {
-        return false;
-    }
-    if LONGEST_WINDOW < w {
-        return false;
-    }
-    if h < LEAST_DISTANCE {
-        return false;
-    }
-    if GREATEST_DISTANCE < h {
-        return false;
-    }
-    n <= LONGEST_STRING
+    SHORTEST_WINDOW <= w
+        && w <= LONGEST_WINDOW
+        && LEAST_DISTANCE <= h
+        && h <= GREATEST_DISTANCE
+        && n <= LONGEST_STRING
 }
 
 // The most blocks that one cutting of n bytes gives.
+#[tactic(auto, unfolding(crate::specs::Most::most_blocks_of))]
 fn bound(n: u64, w: u64, h: u64) -> u64
     requires { 1 ≤ h }
     ensures { result ≡ most_blocks_of n w h }
 {
-    if n < w {
-        return 1;
-    }
-    let fitting = (n - w) / h;
-    if fitting < 1 {
-        return 1;
-    }
-    if MOST_BLOCKS < fitting {
-        return MOST_BLOCKS;
-    }
-    fitting
+    let fitting = n.saturating_sub(w) / h;
+    fitting.clamp(1, MOST_BLOCKS)
 }
 
 // 2^32 and the most blocks that one cutting of n bytes by w and h gives; or 24 where a number is out of its range.

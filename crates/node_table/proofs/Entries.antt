@@ -8,20 +8,32 @@ use lib.Dec.{leb, ltb}
 use lib.ListN.{length, get_or, length-append}
 use borrow.Author.Tests.{lt-ltb, le-ltb, le-leb, lt-leb}
 use Rattle.rows.specs.Rows.{words_of, bytes_of, store_of, put}
-use Rattle.rows.proofs.Rows.{words_cons}
+use Rattle.rows.proofs.Rows.{words_cons, no_row}
 use Rattle.rows.proofs.Put.{length_bytes, store_two}
 use Rattle.node_table.specs.declared.Entry.{Entry}
 use Rattle.node_table.specs.Entries.{id_at, extent_at, start_at, size_at, entry_at, packed, entry_bytes, put_of}
 use Rattle.node_table.specs.Nodes.{inside}
 use Rattle.node_table.specs.Laws.{Fits}
 
-pub id_here : (t : List ℕ) (k r : ℕ) → k < length t / 16 → r ≡ get_or (words_of t) (k * 2) 0 → r ≡ id_at t k
+id_here : (t : List ℕ) (k r : ℕ) → k < length t / 16 → r ≡ get_or (words_of t) (k * 2) 0 → r ≡ id_at t k
 unfolding id_at
 id_here t k r h e = rw (lt-ltb k (length t / 16) h) e
 
 pub id_nowhere : (t : List ℕ) (k : ℕ) → length t / 16 ≤ k → 0 ≡ id_at t k
 unfolding id_at
 id_nowhere t k h = rw (le-ltb k (length t / 16) h)
+
+-- A row that was loaded, or none; the first is the id, and the second the extent.
+pub loaded_id : (t : List ℕ) (k n r : ℕ) → k < length t / 16 → r ≡ get_or (words_of t) (k * 2 + n) 0 → n ≡ 0 → r ≡ id_at t k
+loaded_id t k n r h e z = id_here t k r h (e ∙ ap (λ (i : ℕ). get_or (words_of t) i 0) {x = k * 2 + n} {y = k * 2} (omega arith))
+
+pub loaded_extent : (t : List ℕ) (k n r : ℕ) → r ≡ get_or (words_of t) (k * 2 + n) 0 → n ≡ 1 → r ≡ extent_at t k
+unfolding extent_at
+loaded_extent t k n r e z = rw z at e
+
+pub extent_nowhere : (t : List ℕ) (k : ℕ) → length t / 16 ≤ k → 0 ≡ extent_at t k
+unfolding extent_at
+extent_nowhere t k h = no_row t (k * 2 + 1) (omega arith)
 
 -- An entry with an id is in the table.
 pub there : (t : List ℕ) (k : ℕ) → (id_at t k ≡ 0 → ⊥) → k < length t / 16

@@ -3,7 +3,7 @@ ghost use Rattle.std.specs.Prelude.{◌≡◌};
 ghost use Rattle.node_table.specs.Entries.{entry_at};
 ghost use Rattle.node_table.specs.Nodes.{entries_in, place_of, sought};
 
-use super::{lies_inside, node_id, node_level};
+use super::{ENTRY, lies_inside, node_id, node_level};
 
 // Whether entry k lies in a string of so many bytes and has the id and a level from `low` to `high`.
 fn matches(nodes: &[u8], size: usize, low: u64, high: u64, id: u64, k: usize) -> bool
@@ -13,10 +13,7 @@ fn matches(nodes: &[u8], size: usize, low: u64, high: u64, id: u64, k: usize) ->
         return false;
     }
     let level = node_level(nodes, k);
-    if level < low {
-        return false;
-    }
-    if high < level {
+    if level < low || high < level {
         return false;
     }
     lies_inside(nodes, size, k)
@@ -26,16 +23,14 @@ fn matches(nodes: &[u8], size: usize, low: u64, high: u64, id: u64, k: usize) ->
 pub fn first(nodes: &[u8], size: usize, low: u64, high: u64, id: u64) -> usize
     ensures { result ≡ place_of (sought size low high id) (entries_in nodes.now) }
 {
-    let count = nodes.len() / 16;
-    let mut k = 0;
-    while k < count {
+    let count = nodes.len() / ENTRY;
+    for k in 0..count {
         if node_id(nodes, k) == 0 {
             return k;
         }
         if matches(nodes, size, low, high, id, k) {
             return k;
         }
-        k += 1;
     }
-    k
+    count
 }

@@ -1,14 +1,15 @@
 -- Laws of rows: how many there are, joining tables, reading and writing a row, clearing.
 -- A table is split once at the row, after which each law is one of the list's own.
-use mathlib.Core.List.{List, [], ◌∷◌, ◌++◌, append_assoc, append-nil}
-use mathlib.Core.Path.{◌≡◌, refl, sym, ap, ◌∙◌}
-use Prim.Native.Nat.{ℕ, zero, suc, ◌+◌, ◌*◌, ◌-◌, ◌/◌, ◌%◌, ◌^◌, ◌≤◌, ◌<◌}
-use native.Mathlib.Numerals.{add-one, towards_suc}
-use native.Mathlib.Nat.{sub_self}
-use native.Mathlib.Omega.{arith}
+use Rattle.std.proofs.Common.{List, [], ◌∷◌, ◌++◌, ◌≡◌, refl, sym, ap, ◌∙◌, ℕ, zero, suc, ◌+◌, ◌*◌, ◌-◌, ◌/◌, ◌%◌, ◌^◌, ◌≤◌, ◌<◌, arith, length, get_or, set, take, drop, length-drop, drop-cons}
+use Rattle.std.proofs.Math.Nat.{div-div-eq-div-mul}
+use Rattle.std.proofs.Math.ListN.{replicate}
+use Rattle.std.proofs.lemmas.List.{drop-drop, length-take-le, take_all}
+use native.Mathlib.Numerals.{towards_suc}
 use borrow.Author.Tests.{eqb-false, le-leb, lt-leb}
-use lib.ListN.{length, get_or, set, take, drop, replicate, length-append, length-replicate, replicate-append-replicate, take-append-drop, drop_of_length-le, get_or-eq_default}
-use lib.Seq.{drop-cons, append_snoc, set_at, get_or_at, set_out, sets, sets-eq, length-take-le}
+use borrow.Rule.Slice.PartMut.{put_mid}
+use mathlib.Core.List.{append-nil}
+use lib.ListN.{take-append-drop, drop_of_length-le, get_or-eq_default}
+use lib.Seq.{get_or_at, set_at, set_out}
 use Rattle.rows.specs.Rows.{word_of, words_of, bytes_of, store_of, Stored, clear_from}
 
 pub length_words : (t : List ℕ) → length (words_of t) ≡ length t / 8
@@ -85,12 +86,28 @@ module _ (t : List ℕ) (k : ℕ) (h : k * 8 + 8 ≤ length t) where
       before_row _ ∙ (ap (λ (n : ℕ). p ++ n ∷ q) {y = x} (omega arith)
       ∙ sym (ap (λ (ws : List ℕ). set ws k x) split_words ∙ set_at p _ q x k rows_before))
 
-  pub stored : (x : ℕ) → x < 2 ^ 64 → Stored t (sets t (k * 8) (bytes_of x)) k x
-  unfolding store_of bytes_of
-  stored x b =
-      let written : sets t (k * 8) (bytes_of x) ≡ take (k * 8) t ++ (bytes_of x ++ drop (k * 8 + 8) t) =
-      sets-eq (bytes_of x) t (k * 8) h ∙ append_assoc (take (k * 8) t) (bytes_of x) (drop (k * 8 + 8) t) in
+  -- What is read from the eight bytes at the row's place.
+  pub read_row : (row : List ℕ) → row ≡ take 8 (drop (k * 8) t)
+      → get_or row 0 0 * 72057594037927936 + get_or row 1 0 * 281474976710656 + get_or row 2 0 * 1099511627776 + get_or row 3 0 * 4294967296
+      + get_or row 4 0 * 16777216 + get_or row 5 0 * 65536 + get_or row 6 0 * 256 + get_or row 7 0
+      ≡ get_or (words_of t) k 0
+  read_row row is = rw (is, eight_bytes t (k * 8) h, load_row) (omega arith)
+
+  -- What is written over the eight bytes at the row's place.
+  pub stored : (x n : ℕ) (row : List ℕ) → x < 2 ^ 64 → n ≡ 8 → row ≡ bytes_of x → Stored t (put_mid (k * 8) n t row) k x
+  unfolding store_of
+  stored x n row b e is =
+      let written : put_mid (k * 8) n t row ≡ take (k * 8) t ++ (bytes_of x ++ drop (k * 8 + 8) t) =
+      rw (is, e, drop-drop 8 (k * 8) t) in
       record { bytes = written ∙ rw (le-leb (k * 8 + 8) (length t) h); words = ap words_of written ∙ store_row x b }
+
+-- The eight bytes of a number, by one division each.
+pub bytes_by_one : (x : ℕ)
+    → x / 72057594037927936 % 256 ∷ x / 281474976710656 % 256 ∷ x / 1099511627776 % 256 ∷ x / 4294967296 % 256
+    ∷ x / 16777216 % 256 ∷ x / 65536 % 256 ∷ x / 256 % 256 ∷ x % 256 ∷ []
+    ≡ bytes_of x
+unfolding bytes_of
+bytes_by_one x = simp div-div-eq-div-mul
 
 -- A table that has no row k.
 pub not_stored : (t : List ℕ) (k x : ℕ) → length t / 8 ≤ k → Stored t t k x
@@ -104,29 +121,18 @@ not_stored t k x h =
 pub no_row : (t : List ℕ) (k : ℕ) → length t / 8 ≤ k → 0 ≡ get_or (words_of t) k 0
 no_row t k h = sym (get_or-eq_default (words_of t) 0 {n = k} (simp length_words h))
 
--- Clearing byte by byte: before the first, one more, and after the last.
-pub clear_none : (t : List ℕ) (from : ℕ) → t ≡ take from t ++ (replicate (from - from) 0 ++ drop from t)
-clear_none t from = rw (sub_self, take-append-drop)
-
-pub clear_more : (t : List ℕ) (from i : ℕ) → from ≤ i → i < length t
-    → set (take from t ++ (replicate (i - from) 0 ++ drop i t)) i 0 ≡ take from t ++ (replicate (i + 1 - from) 0 ++ drop (i + 1) t)
-clear_more t from i low high =
-    let front = take from t in
-    let zeros : List ℕ = replicate (i - from) 0 in
-    let rest = drop (suc i) t in
-    let long : length (front ++ zeros) ≡ i = simp (length-append, length-take-le from t (omega arith), length-replicate) (omega arith) in
-    let more : replicate (i + 1 - from) 0 ≡ zeros ++ (0 ∷ []) =
-    ap (λ (n : ℕ). replicate {A = ℕ} n 0) {x = i + 1 - from} {y = i - from + 1} (omega arith) ∙ sym (replicate-append-replicate (i - from) 1 0) in
-    ap (λ (l : List ℕ). set (front ++ (zeros ++ l)) i 0) (drop-cons t i 0 high)
-    ∙ (ap (λ (l : List ℕ). set l i 0) (sym (append_assoc front zeros (get_or t i 0 ∷ rest)))
-    ∙ (set_at (front ++ zeros) (get_or t i 0) rest 0 i long
-    ∙ (append_assoc front zeros (0 ∷ rest) ∙ rw (more, add-one, append_snoc zeros 0 rest))))
-
-pub clear_end : (t now : List ℕ) (from i : ℕ) → length t ≤ i → i - from ≤ length t - from → now ≡ take from t ++ (replicate (i - from) 0 ++ drop i t) → now ≡ clear_from t from
+-- Zeros written over the bytes from a place on; where there are none, nothing is written.
+pub cleared : (t zeros : List ℕ) (from : ℕ) → from ≤ length t → zeros ≡ replicate (length (take (length t - from) (drop from t))) 0
+    → put_mid from (length t - from) t zeros ≡ clear_from t from
 unfolding clear_from
-clear_end t now from i h high e =
-    let all : i - from ≡ length t - from = omega arith in
-    e ∙ rw (drop_of_length-le t h, all, append-nil)
+cleared t zeros from h is =
+    let long : length (take (length t - from) (drop from t)) ≡ length t - from = length-take-le _ _ (omega (arith, length-drop from t)) in
+    let past : drop (from + (length t - from)) t ≡ [] = drop_of_length-le t (omega arith) in
+    rw (is, long, drop-drop (length t - from) from t, past, append-nil)
+
+pub none_cleared : (t : List ℕ) (from : ℕ) → length t ≤ from → t ≡ clear_from t from
+unfolding clear_from
+none_cleared t from h = let none : length t - from ≡ 0 = omega arith in rw (none, append-nil, take_all from t h)
 
 -- A number in front of a table is its first row.
 pub words_cons : (x : ℕ) (rest : List ℕ) → x < 2 ^ 64 → words_of (bytes_of x ++ rest) ≡ x ∷ words_of rest

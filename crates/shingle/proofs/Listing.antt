@@ -73,8 +73,11 @@ module _ (nodes before t last : List ℕ) (i : ℕ) (c : Listing nodes before t 
   pub written_zero : id_at nodes i ≡ 0 → Written nodes before t i
   written_zero e = written (pairs_zero nodes 4096 i e)
 
-  pub written_full : 4096 ≤ i → Written nodes before t i
-  written_full h = written (pairs_full nodes 4096 i h)
+  pub written_full : 4096 ≤ i → Written nodes before t 4096
+  written_full h =
+      let inside = c.inside in
+      let all : i ≡ 4096 = omega arith in
+      rw all at (written (pairs_full nodes 4096 i h))
 
 module _ (nodes before t t' last next : List ℕ) (i : ℕ) (c : Listing nodes before t last i) (id level : ℕ) (e : Entry)
     (h : i < 4096) (is : id ≡ id_at nodes i) (some : id ≡ 0 → ⊥) (at : level ≡ level_at nodes i)

@@ -31,8 +31,9 @@ after_end : (t : List ℕ) (k : ℕ) → length t / 24 ≤ k → after t k ≡ [
 unfolding shingles_from
 after_end t k h = rw (drop_of_length-le (table_of t) {i = k} (simp length_table h))
 
-pub size_end : (t : List ℕ) (k : ℕ) → length t / 24 ≤ k → k + length (after t k) ≡ length (shingles_in t) → k ≡ length (shingles_in t)
-size_end t k h e = omega (arith, rw (after_end t k h) at e)
+pub size_end : (t : List ℕ) (k : ℕ) → k ≤ length t / 24 → length t / 24 ≤ k → k + length (after t k) ≡ length (shingles_in t)
+    → length t / 24 ≡ length (shingles_in t)
+size_end t k b h e = omega (arith, rw (after_end t k h) at e)
 
 pub holds_end : (t : List ℕ) (s : Shingle) (k : ℕ) → length t / 24 ≤ k → holds s (after t k) ≡ holds s (shingles_in t) → false ≡ holds s (shingles_in t)
 unfolding holds

@@ -7,7 +7,6 @@ use lib.ListN.{length}
 use Rattle.fnv.specs.Fnv.{id_of_block}
 use Rattle.tree.specs.declared.Settings.{Settings}
 use Rattle.tree.specs.Tree.{Node, children_of, in_turn, tree_of, nodes_of}
-use Rattle.shingle.specs.declared.Shingle.{Shingle}
 use Rattle.shingle.specs.Shingles.{Listed, listed, Pair, pair, sibling_of, pairs_after, pairs_of, counted, shingles_of}
 use Rattle.shingle.specs.Children.{listed_of}
 use Rattle.shingle.specs.TreePairs.{pairs_in_turn, pairs_under, tree_pairs}

@@ -8,8 +8,22 @@ mod pairs;
 ghost use Rattle.std.specs.Prelude.{◌≡◌, length};
 ghost use Rattle.shingle.specs.Table.{Filled, shingle_in_table, shingles_in, holds};
 
+// An entry's size in bytes.
+const ENTRY: usize = 24;
+
+// The nodes of a table are at most so many, and so are its shingles.
+const NODES: usize = 4096;
+
+const ROOM: usize = NODES * ENTRY;
+
+// In an entry's tail the level stands above the count, from here on.
+const LEVEL: u64 = 65536;
+
+// What an answer adds to the number of shingles.
+const FILLED: u64 = 4294967296;
+
 // Document 01's shingle: a pair of neighbours' ids at a level, and how many nodes of the level give it.
-#[derive(Clone, Copy)]
+#[derive(Clone, Copy, PartialEq, Eq)]
 pub struct Shingle {
     pub previous: u64,
     pub own: u64,
@@ -22,13 +36,13 @@ pub struct Shingle {
 pub fn fill_shingles(nodes: &[u8], shingles: &mut [u8]) -> u64
     ensures { Filled nodes.now shingles.old shingles.new result }
 {
-    if shingles.len() < 98304 {
+    if shingles.len() < ROOM {
         return 7;
     }
     let n = pairs::write_pairs(nodes, shingles);
-    let m = merge::arrange(&mut shingles[..n * 24]);
-    rows::clear(shingles, m * 24);
-    4294967296 + m as u64
+    let m = merge::arrange(&mut shingles[..n * ENTRY]);
+    rows::clear(shingles, m * ENTRY);
+    FILLED + m as u64
 }
 
 // Entry k of a shingle table.
@@ -39,8 +53,8 @@ pub fn shingle_at(shingles: &[u8], k: usize) -> Shingle
     Shingle {
         previous: e.previous,
         own: e.own,
-        level: e.tail / 65536,
-        count: e.tail % 65536,
+        level: e.tail / LEVEL,
+        count: e.tail % LEVEL,
     }
 }
 

@@ -3,22 +3,10 @@ ghost use Rattle.std.specs.Prelude.{◌≡◌};
 ghost use Rattle.entries.specs.Entries.{table_of};
 ghost use Rattle.entries.specs.Order.{precedes};
 ghost use Rattle.sort.specs.Sort.{sort_of};
-ghost use Rattle.shingle.specs.Steps.{equal, entry_with_count, Merged};
+ghost use Rattle.shingle.specs.Steps.{entry_with_count, Merged};
 
+use super::{ENTRY, LEVEL};
 use entries::Entry;
-
-// Whether two entries are equal.
-fn same(a: Entry, b: Entry) -> bool
-    ensures { result ≡ equal a b }
-{
-    if a.previous != b.previous {
-        return false;
-    }
-    if a.own != b.own {
-        return false;
-    }
-    a.tail == b.tail
-}
 
 // The entry with another count, modulo 65,536.
 fn with_count(e: Entry, count: usize) -> Entry
@@ -27,7 +15,7 @@ fn with_count(e: Entry, count: usize) -> Entry
     Entry {
         previous: e.previous,
         own: e.own,
-        tail: e.tail / 65536 * 65536 + count as u64 % 65536,
+        tail: e.tail / LEVEL * LEVEL + count as u64 % LEVEL,
     }
 }
 
@@ -35,25 +23,22 @@ fn with_count(e: Entry, count: usize) -> Entry
 fn merge(table: &mut [u8]) -> usize
     ensures { Merged (table_of table.old) table.old table.new result }
 {
-    let n = table.len() / 24;
+    let n = table.len() / ENTRY;
     if n == 0 {
         return 0;
     }
     let mut e = entries::get(table, 0);
     let mut count: usize = 1;
     let mut written: usize = 0;
-    let mut read: usize = 1;
-    while read < n {
+    for read in 1..n {
         let next = entries::get(table, read);
-        if same(e, next) {
+        if e == next {
             count += 1;
-            read += 1;
         } else {
             entries::put(table, written, with_count(e, count));
             e = next;
             count = 1;
             written += 1;
-            read += 1;
         }
     }
     entries::put(table, written, with_count(e, count));

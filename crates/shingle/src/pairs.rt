@@ -2,6 +2,7 @@
 ghost use Rattle.std.specs.Prelude.{◌≤◌, ◌<◌, length};
 ghost use Rattle.shingle.specs.Steps.{Followed, Written};
 
+use super::{LEVEL, NODES};
 use entries::Entry;
 
 // The id of the last node of each level under the same parent, after a node of the given level and id. Below that node no
@@ -11,11 +12,7 @@ fn follow(last: [u64; 8], level: usize, id: u64) -> [u64; 8]
     ensures { Followed last level id result }
 {
     let mut next = [0u64; 8];
-    let mut l = 0;
-    while l < level {
-        next[l] = last[l];
-        l += 1;
-    }
+    next[..level].copy_from_slice(&last[..level]);
     next[level] = id;
     next
 }
@@ -26,8 +23,7 @@ pub fn write_pairs(nodes: &[u8], table: &mut [u8]) -> usize
     ensures { Written nodes.now table.old table.new result }
 {
     let mut last = [0u64; 8];
-    let mut i = 0;
-    while i < 4096 {
+    for i in 0..NODES {
         let id = node_table::node_id(nodes, i);
         if id == 0 {
             return i;
@@ -35,7 +31,7 @@ pub fn write_pairs(nodes: &[u8], table: &mut [u8]) -> usize
         let level = node_table::node_level(nodes, i);
         let place = level as usize;
         let previous = last[place];
-        let tail = level * 65536 + 1;
+        let tail = level * LEVEL + 1;
         let single = Entry {
             previous,
             own: id,
@@ -43,7 +39,6 @@ pub fn write_pairs(nodes: &[u8], table: &mut [u8]) -> usize
         };
         entries::put(table, i, single);
         last = follow(last, place, id);
-        i += 1;
     }
-    i
+    NODES
 }

@@ -1,7 +1,7 @@
 -- Each way out of cutting a string is a case of the definition: refused by 1 to 6, by 7, by 8, and accepted.
 use mathlib.Core.Bool.{Bool, true, false}
 use mathlib.Core.List.{List, ◌++◌, append_assoc}
-use mathlib.Core.Path.{◌≡◌, ap, ◌∙◌}
+use mathlib.Core.Path.{◌≡◌, refl, ap, ◌∙◌}
 use Prim.Native.Nat.{ℕ, ◌+◌, ◌*◌, ◌-◌, ◌^◌, ◌≤◌, ◌<◌}
 use native.Mathlib.Nat.{sub-zero}
 use native.Mathlib.Omega.{arith}
@@ -13,10 +13,11 @@ use Rattle.rows.specs.Rows.{clear_from, put}
 use Rattle.tree.specs.declared.Settings.{Settings}
 use Rattle.tree.specs.Questions.{ask, refusal}
 use Rattle.tree.specs.Tree.{nodes_of}
-use Rattle.tree.specs.Places.{placed_tree, places_of}
+use Rattle.tree.specs.Places.{Placed, placed_tree, places_of}
 use Rattle.tree.specs.Table.{entries_of, tree_refusal, tree_answer, tree_table, Tabled}
 use Rattle.tree.specs.Wrote.{Wrote, Finished}
-use Rattle.tree.proofs.Wrote.{length_nodes}
+use Rattle.std.specs.Prelude.{Option, None, Some, IfSome}
+use Rattle.tree.proofs.Wrote.{length_nodes, fits, filled, inside}
 use Rattle.tree.proofs.Places.{count_placed}
 
 -- Entries written from the start of a table are its front.
@@ -72,38 +73,43 @@ module _ (σ : Settings) (string before : List ℕ) where
         record { answer = a ∙ rw k; table = e ∙ rw k }
 
     -- The first 65,536 bytes of the table were lent to be written to, and came back as `part`.
-    module _ (part : List ℕ) (used : ℕ) (wrote : Wrote (take 65536 before) part 0 (placed_tree σ σ.levels 0 0 0 0 0 string) used)
-        (kept : length part ≡ length (take 65536 before)) where
+    module _ (part : List ℕ) (kept : length part ≡ length (take 65536 before)) where
       whole : length (part ++ drop 65536 before) ≡ length before
       whole = length_front before part 65536 kept
 
-      refused_count : (after : List ℕ) → 4096 < used → after ≡ clear_from (part ++ drop 65536 before) 0 → Tabled σ string before after 8
+      refused_count : Wrote (take 65536 before) part 0 (placed_tree σ σ.levels 0 0 0 0 0 string) None
+          → (after : List ℕ) → after ≡ clear_from (part ++ drop 65536 before) 0 → Tabled σ string before after 8
       unfolding clear_from places_of
-      refused_count after h e =
+      refused_count wrote after e =
           let count = count_placed σ string in
           refused_eight after
-          (elim (dec_le (length (nodes_of σ string)) 4096) [ yes k ↦ let f = wrote.fit (omega arith) in absurd (omega (arith, f.0)) | no k ↦ omega arith ])
+          (elim (dec_le (length (nodes_of σ string)) 4096) [ yes k ↦ let f = (wrote.fit (omega arith)).0 in absurd (cc f) | no k ↦ omega arith ])
           (e ∙ rw (sub-zero, whole))
 
-      accepted_nodes : (after : List ℕ) (r : ℕ) → used ≤ 4096 → after ≡ clear_from (part ++ drop 65536 before) (used * 16) → r ≡ 2 ^ 32 + used
+      accepted_nodes : (used : ℕ) → Wrote (take 65536 before) part 0 (placed_tree σ σ.levels 0 0 0 0 0 string) (Some used)
+          → (after : List ℕ) (r : ℕ) → after ≡ clear_from (part ++ drop 65536 before) (used * 16) → r ≡ 2 ^ 32 + used
           → Tabled σ string before after r
       unfolding clear_from places_of
-      accepted_nodes after r h e answer =
+      accepted_nodes used wrote after r e answer =
           let same = count_placed σ string in
-          let count : length (nodes_of σ string) ≤ 4096 =
-          elim (dec_le (length (nodes_of σ string)) 4096) [ yes k ↦ k | no k ↦ let f = wrote.full (omega arith) in absurd (omega arith) ] in
-          let written = wrote.fit (omega arith) in
+          let fit = fits _ _ _ _ _ wrote in
+          let is = filled _ _ _ _ _ wrote in
+          let written = (wrote.fit fit).1 in
           let ns = places_of σ string in
-          let used-is : used ≡ length (nodes_of σ string) = omega (arith, written.0) in
+          let count : length (nodes_of σ string) ≤ 4096 = omega arith in
+          let used-is : used ≡ length (nodes_of σ string) = omega arith in
           let front : take (used * 16) (part ++ drop 65536 before) ≡ entries_of ns =
-          ap (λ (l : List ℕ). take (used * 16) (l ++ drop 65536 before)) written.1
+          ap (λ (l : List ℕ). take (used * 16) (l ++ drop 65536 before)) written
           ∙ front_put (take 65536 before) (entries_of ns) (drop 65536 before) (used * 16) (omega (arith, length_nodes ns)) in
           let zeros : length before - used * 16 ≡ length before - 16 * length (nodes_of σ string) = omega arith in
           accepted_with after r count (answer ∙ ap (λ (n : ℕ). 2 ^ 32 + n) used-is) (e ∙ rw (front, whole, zeros))
 
-      pub finished : (after : List ℕ) (r : ℕ) → Finished (part ++ drop 65536 before) after used r → Tabled σ string before after r
-      finished after r f =
-          elim (dec_le used 4096) [
-            | yes h ↦ let done = f.few h in accepted_nodes after r h done.1 done.0
-            | no h ↦ let done = f.many (omega arith) in rw done.0 (refused_count after (omega arith) done.1)
-          ]
+      pub finished : (used : Option ℕ) → Wrote (take 65536 before) part 0 (placed_tree σ σ.levels 0 0 0 0 0 string) used
+          → (after : List ℕ) (r : ℕ) → Finished (part ++ drop 65536 before) after used r → Tabled σ string before after r
+      finished None wrote after r f = let done = f.many refl in rw done.0 (refused_count wrote after done.1)
+      finished (Some n) wrote after r f = let done = f.few n refl in accepted_nodes n wrote after r done.1 done.0
+
+-- Of nodes that fitted there are at most 4,096.
+pub used_inside : (t₀ t₁ : List ℕ) (u : ℕ) (ns : List Placed) (used : Option ℕ) → Wrote t₀ t₁ u ns used → IfSome used (λ n. n ≤ 4096)
+used_inside t₀ t₁ u ns None wrote = tt
+used_inside t₀ t₁ u ns (Some n) wrote = inside t₀ t₁ u ns n wrote

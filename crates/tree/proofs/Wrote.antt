@@ -14,6 +14,7 @@ use Rattle.node_table.proofs.Entries.{put_room}
 use Rattle.node_table.proofs.Nodes.{length_entries, entries_append}
 use Rattle.tree.specs.Places.{Placed}
 use Rattle.tree.specs.Table.{entry_of, entries_of}
+use Rattle.std.specs.Prelude.{Option, None, Some}
 use Rattle.tree.specs.Wrote.{Wrote}
 
 pub length_nodes : (ns : List Placed) → length (entries_of ns) ≡ length ns * 16
@@ -23,7 +24,7 @@ nodes_append : (ns ms : List Placed) → entries_of (ns ++ ms) ≡ entries_of ns
 nodes_append ns ms = ap entries_bytes (map-append entry_of ns ms) ∙ entries_append (map entry_of ns) (map entry_of ms)
 
 pub wrote_entry : (before after : List ℕ) (u : ℕ) (n : Placed) → length before ≡ 65536 → u < 4096 → after ≡ put_of before u (entry_of n)
-    → Wrote before after u (n ∷ []) (u + 1)
+    → Wrote before after u (n ∷ []) (Some (u + 1))
 unfolding entries_bytes
 wrote_entry before after u n room h e =
     record {
@@ -31,38 +32,40 @@ wrote_entry before after u n room h e =
       full = λ k. absurd (omega arith);
     }
 
-pub wrote_none : (t : List ℕ) (u : ℕ) (n : Placed) → u ≡ 4096 → Wrote t t u (n ∷ []) 4097
+pub wrote_none : (t : List ℕ) (u : ℕ) (n : Placed) → u ≡ 4096 → Wrote t t u (n ∷ []) None
 wrote_none t u n e = record { fit = λ k. absurd (omega arith); full = λ k. refl }
 
-module _ (t₀ t₁ : List ℕ) (u : ℕ) (ns : List Placed) (v : ℕ) (first : Wrote t₀ t₁ u ns v) where
-  fits : v ≤ 4096 → u + length ns ≤ 4096
-  fits h = elim (dec_le (u + length ns) 4096) [ yes k ↦ k | no k ↦ let f = first.full (omega arith) in omega arith ]
+-- Nodes that fitted.
+module _ (t₀ t₁ : List ℕ) (u : ℕ) (ns : List Placed) (v : ℕ) (first : Wrote t₀ t₁ u ns (Some v)) where
+  pub fits : u + length ns ≤ 4096
+  fits = elim (dec_le (u + length ns) 4096) [ yes k ↦ k | no k ↦ let f = first.full (omega arith) in absurd (cc f) ]
 
   -- As many entries as there are then.
-  pub filled : v ≤ 4096 → v ≡ u + length ns
-  filled h = (first.fit (fits h)).0
+  pub filled : v ≡ u + length ns
+  filled = let f = (first.fit fits).0 in cc f
 
-  -- What is written after nodes that fitted.
-  pub after : (t₂ : List ℕ) (ms : List Placed) (r : ℕ) → length t₀ ≡ 65536 → v ≤ 4096 → Wrote t₁ t₂ v ms r → Wrote t₀ t₂ u (ns ++ ms) r
-  after t₂ ms r room h second =
+  pub inside : v ≤ 4096
+  inside = omega (arith, fits, filled)
+
+  -- What is written after them.
+  pub after : (t₂ : List ℕ) (ms : List Placed) (r : Option ℕ) → length t₀ ≡ 65536 → Wrote t₁ t₂ v ms r → Wrote t₀ t₂ u (ns ++ ms) r
+  after t₂ ms r room second =
       let sized = length-append ns ms in
-      let written = first.fit (fits h) in
+      let is = filled in
+      let written = (first.fit fits).1 in
       record {
         fit = λ k.
-            let more = second.fit (omega (arith, written.0)) in (
-              omega (arith, written.0, more.0),
-              more.1 ∙ (ap (λ (l : List ℕ). put l (v * 16) (entries_of ms)) written.1
-                  ∙ (put-put t₀ (entries_of ns) (entries_of ms) (u * 16) (v * 16) (omega (arith, written.0, length_nodes ns)) (omega arith)
+            let more = second.fit (omega arith) in (
+              more.0 ∙ ap (λ (n : ℕ). Some n) {x = v + length ms} {y = u + length (ns ++ ms)} (omega arith),
+              more.1 ∙ (ap (λ (l : List ℕ). put l (v * 16) (entries_of ms)) written
+                  ∙ (put-put t₀ (entries_of ns) (entries_of ms) (u * 16) (v * 16) (omega (arith, length_nodes ns)) (omega (arith, fits))
                   ∙ ap (λ (l : List ℕ). put t₀ (u * 16) l) (sym (nodes_append ns ms)))),
             );
-        full = λ k. second.full (omega (arith, written.0));
+        full = λ k. second.full (omega arith);
       }
 
-  -- Nodes that did not fit stay so, whatever comes after them.
-  pub stop : (ms : List Placed) → 4096 < v → Wrote t₀ t₁ u (ns ++ ms) v
-  stop ms h =
-      let sized = length-append ns ms in
-      record {
-        fit = λ k. let f = first.fit (omega arith) in absurd (omega (arith, f.0));
-        full = λ k. elim (dec_le (u + length ns) 4096) [ yes l ↦ let f = first.fit l in absurd (omega (arith, f.0)) | no l ↦ first.full (omega arith) ];
-      }
+-- Nodes that did not fit stay so, whatever comes after them.
+pub stop : (t₀ t₁ : List ℕ) (u : ℕ) (ns ms : List Placed) → Wrote t₀ t₁ u ns None → Wrote t₀ t₁ u (ns ++ ms) None
+stop t₀ t₁ u ns ms first =
+    let sized = length-append ns ms in
+    record { fit = λ k. let f = (first.fit (omega arith)).0 in absurd (cc f); full = λ k. refl }

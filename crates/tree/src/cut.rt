@@ -9,7 +9,7 @@ use super::{Settings, entry, level};
 use partition::Cuts;
 
 // Writes a node and all below it after `used` entries: bytes that start at `start` of the string, at a level that leaves
-// so many to cut, at the given place under the entry `parent`. The answer is how many entries there are then, or 4,097 if they
+// so many to cut, at the given place under the entry `parent`. The answer is how many entries there are then, or none if they
 // do not fit.
 #[cycle(cut_node_walk_children)]
 pub fn cut_node(
@@ -22,16 +22,13 @@ pub fn cut_node(
     place: usize,
     table: &mut [u8],
     used: usize,
-) -> usize
+) -> Option<usize>
     requires { Cutting settings left level start (length bytes.now) (length table.old) used }
     ensures { Wrote table.old table.new used (placed_tree settings left level start used parent place bytes.now) result }
 {
-    let next = entry::append(level, start, bytes, parent, place, table, used);
+    let next = entry::append(level, start, bytes, parent, place, table, used)?;
     if left == 0 {
-        return next;
-    }
-    if 4096 < next {
-        return next;
+        return Some(next);
     }
     let cuts = level::cuts_at(settings, level + 1, bytes);
     walk_children(
@@ -64,7 +61,7 @@ fn walk_children(
     from: usize,
     table: &mut [u8],
     used: usize,
-) -> usize
+) -> Option<usize>
     requires { Walking settings left level start (length bytes.now) cuts.at cuts.n child from (length table.old) used }
     ensures { Wrote table.old table.new used (placed_in_turn (placed_tree settings left level) parent (start + from) used child (blocks_from from (drop child (take cuts.n cuts.at)) bytes.now)) result }
 {
@@ -84,12 +81,9 @@ fn walk_children(
         child,
         table,
         used,
-    );
+    )?;
     if n <= child {
-        return next;
-    }
-    if 4096 < next {
-        return next;
+        return Some(next);
     }
     walk_children(
         settings,

@@ -4,9 +4,10 @@ ghost use Rattle.tree.specs.Places.{placed};
 ghost use Rattle.tree.specs.Tree.{node};
 ghost use Rattle.tree.specs.Wrote.{Wrote};
 
+use super::NODES;
 use node_table::Entry;
 
-// Writes a node's entry after `used` others. The answer is how many there are then, or 4,097 if the table is full.
+// Writes a node's entry after `used` others. The answer is how many there are then, or none if the table is full.
 pub fn append(
     level: u64,
     start: usize,
@@ -15,13 +16,13 @@ pub fn append(
     place: usize,
     table: &mut [u8],
     used: usize,
-) -> usize
+) -> Option<usize>
     requires table_len { length table.old ≡ 65536 }
     requires used_bound { used ≤ 4096 }
     ensures { Wrote table.old table.new used (placed (node level start bytes.now) parent place ∷ []) result }
 {
-    if used == 4096 {
-        return 4097;
+    if used == NODES {
+        return None;
     }
     let id = fnv::block_id(bytes);
     let entry = Entry {
@@ -33,5 +34,5 @@ pub fn append(
         place: place as u64,
     };
     node_table::put(table, used, entry);
-    used + 1
+    Some(used + 1)
 }

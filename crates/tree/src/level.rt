@@ -14,13 +14,7 @@ pub fn power(base: u64, exponent: u64) -> u64
     requires exponent_bound { exponent ≤ 4 }
     ensures { Power base exponent result }
 {
-    let mut r: u64 = 1;
-    let mut i: u64 = 0;
-    while i < exponent {
-        r = r * base;
-        i += 1;
-    }
-    r
+    base.pow(exponent as u32)
 }
 
 // The cuts of a node's bytes by the rule of level l, its children's level.

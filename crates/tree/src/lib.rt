@@ -6,10 +6,21 @@ mod entry;
 mod level;
 mod limits;
 
-ghost use Rattle.std.specs.Prelude.{◌≡◌, leb};
+ghost use Rattle.std.specs.Prelude.{◌≡◌, ◌≤◌, leb, IfSome};
 ghost use Rattle.tree.specs.Questions.{refusal};
 ghost use Rattle.tree.specs.Table.{Tabled};
 ghost use Rattle.tree.specs.Wrote.{Finished};
+
+// An entry's size in bytes.
+const ENTRY: usize = 16;
+
+// A tree has at most so many nodes.
+const NODES: usize = 4096;
+
+const ROOM: usize = NODES * ENTRY;
+
+// What an answer adds to the number of nodes.
+const WRITTEN: u64 = 4294967296;
 
 // Document 01's settings: window w, fan-out p, levels L, nominal length M, sketch width q.
 #[derive(Clone, Copy)]
@@ -37,19 +48,20 @@ pub fn question(settings: Settings, size: usize) -> u64
 pub fn has_room(nodes: usize) -> bool
     ensures { result ≡ leb 65536 nodes }
 {
-    65536 <= nodes
+    ROOM <= nodes
 }
 
-// Clears the table past its used entries, and answers how many they are. If they are more than 4,096, it clears all of it, and the answer is 8.
-fn finish(nodes: &mut [u8], used: usize) -> u64
+// Clears the table past its used entries, and answers how many they are. If they did not fit, it clears all of it, and the answer is 8.
+fn finish(nodes: &mut [u8], used: Option<usize>) -> u64
+    requires { IfSome used (λ n. n ≤ 4096) }
     ensures { Finished nodes.old nodes.new used result }
 {
-    if 4096 < used {
+    let Some(used) = used else {
         rows::clear(nodes, 0);
         return 8;
-    }
-    rows::clear(nodes, used * 16);
-    4294967296 + used as u64
+    };
+    rows::clear(nodes, used * ENTRY);
+    WRITTEN + used as u64
 }
 
 // Cuts a string into its tree of blocks and writes the tree to the node table. Asked are 1 to 6, 7 of the node table, and 8:
@@ -73,7 +85,7 @@ pub fn cut_string(settings: Settings, string: &[u8], nodes: &mut [u8]) -> u64
         string,
         0,
         0,
-        &mut nodes[..65536],
+        &mut nodes[..ROOM],
         0,
     );
     finish(nodes, used)

@@ -1,10 +1,5 @@
-use borrow.Author.Rules.{rules}
-use mathlib.Core.Path.{◌≡◌}
-use mathlib.Core.List.{List}
-use Prim.Native.Nat.{ℕ, ◌+◌, ◌-◌, ◌≤◌, ◌<◌}
-use native.Mathlib.Numerals.{add-one}
-use lib.ListN.{length, get_or, drop, drop_of_length-le}
-use lib.Seq.{drop-cons}
+use Rattle.std.proofs.Common.{◌≡◌, List, ℕ, ◌+◌, ◌≤◌, ◌<◌, length, get_or, drop, drop-cons, add-one, rules}
+use lib.ListN.{drop_of_length-le}
 use Rattle.fnv.specs.Fnv.{next_hash, hash_onward}
 use Rattle.fnv.proofs.hash_from.Goals as goal
 
@@ -17,11 +12,8 @@ at-end : (all value i : ℕ) (bytes : List ℕ) → length bytes ≤ i → hash_
 unfolding hash_onward
 at-end all value i bytes h inv = rw (drop_of_length-le bytes h) at inv
 
-pub loop-i-preserved : goal.loop-i-preserved
-loop-i-preserved c =
-    let i = c.loop-i.i in
-    let bytes = c.args.bytes.now in
-    (search rules, one_more _ _ _ i bytes (search rules) c.hash_step-value.ensures c.loop-i.invariant.1)
+pub loop-byte-preserved : goal.loop-byte-preserved
+loop-byte-preserved c = one_more _ _ _ c.loop-byte.byte-index c.args.bytes.now (search rules) c.hash_step-value.ensures c.loop-byte.invariant
 
 pub returns : goal.returns
-returns c = at-end _ _ c.loop-i.i c.args.bytes.now (search rules) c.loop-i.invariant.1
+returns c = at-end _ _ c.loop-byte.byte-index c.args.bytes.now (search rules) c.loop-byte.invariant

@@ -1,8 +1,7 @@
 -- Refused where a number is out of its range, else the bound.
-use mathlib.Core.Bool.{true}
 use mathlib.Core.Path.{sym, ◌∙◌}
 use native.Mathlib.Omega.{arith}
-use Rattle.most_blocks.specs.Most.{most_blocks_of, in_range, most_answer}
+use Rattle.most_blocks.specs.Most.{most_blocks_of, most_answer}
 use Rattle.most_blocks.proofs.Accepted.{apart}
 use Rattle.most_blocks.proofs.most_blocks.Goals as goal
 

@@ -7,11 +7,11 @@ use lib.Seq.{length-take-le}
 use Rattle.shingle.proofs.Outcome.{filled_short, filled, fits, few, plus_fits}
 use Rattle.shingle.proofs.fill_shingles.Goals as goal
 
-pub returns-then-shingles-lt98304 : goal.returns-then-shingles-lt98304
-returns-then-shingles-lt98304 c = filled_short _ _ (search rules)
+pub returns-then-shingles-lt-ROOM : goal.returns-then-shingles-lt-ROOM
+returns-then-shingles-lt-ROOM c = filled_short _ _ (search rules)
 
 pub slice_bounds-arrange-end-2 : goal.slice_bounds-arrange-end-2
-slice_bounds-arrange-end-2 c = sym (length-take-le (c.write_pairs-n.result * 24) _ (fits _ _ _ _ c.write_pairs-n.ensures c.if-shingles-lt98304.false))
+slice_bounds-arrange-end-2 c = sym (length-take-le (c.write_pairs-n.result * 24) _ (fits _ _ _ _ c.write_pairs-n.ensures c.if-shingles-lt-ROOM.false))
 
 pub overflow_mul-m : goal.overflow_mul-m
 overflow_mul-m c = omega (arith, few _ _ _ _ _ _ c.write_pairs-n.ensures c.arrange-m.ensures, c.write_pairs-n.ensures.few)
@@ -21,5 +21,5 @@ overflow_add-result c = record { fits = plus_fits _ (few _ _ _ _ _ _ c.write_pai
 
 pub returns : goal.returns
 returns c =
-    filled _ _ _ _ _ _ _ _ c.if-shingles-lt98304.false c.write_pairs-n.ensures c.arrange-m.ensures
+    filled _ _ _ _ _ _ _ _ c.if-shingles-lt-ROOM.false c.write_pairs-n.ensures c.arrange-m.ensures
     (λ i. omega (arith, c.slice_known-3-1.given i)) c.clear.ensures refl

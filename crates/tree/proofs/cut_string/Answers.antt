@@ -1,10 +1,9 @@
 -- Each way out is an outcome of the definition. The first 65,536 bytes of the table are lent to be written.
 use mathlib.Core.Path.{sym, ◌∙◌}
 use borrow.Author.Tests.{leb-true, leb-false}
-use lib.ListN.{length, take}
 use lib.Seq.{length-take-le, length_front}
 use Rattle.tree.proofs.Questions.{first_cutting}
-use Rattle.tree.proofs.Outcome.{refused_settings, refused_room, finished}
+use Rattle.tree.proofs.Outcome.{refused_settings, refused_room, finished, used_inside}
 use Rattle.tree.proofs.cut_string.Goals as goal
 
 pub returns-then-refused-ne0 : goal.returns-then-refused-ne0
@@ -22,11 +21,14 @@ slice_bounds-cut_node-end-2 c = sym (length-take-le 65536 c.args.nodes.now (leb-
 pub cut_node-used-requires : goal.cut_node-used-requires
 cut_node-used-requires c = first_cutting _ _ _ (sym c.question-refused.ensures ∙ c.if-refused-ne0.false) (length-take-le 65536 c.args.nodes.now (leb-true 65536 _ (sym c.has_room.ensures ∙ c.if-not-has_room.false)))
 
+pub finish-requires : goal.finish-requires
+finish-requires c = used_inside _ _ _ _ _ c.cut_node-used.ensures
+
 pub shape_of-nodes : goal.shape_of-nodes
 shape_of-nodes c = c.finish.auto.nodes ∙ (length_front c.args.nodes.now c.cut_node-used.new.table 65536 (c.cut_node-used.auto.table))
 
 pub returns : goal.returns
 returns c =
     let a = c.args in
-    finished a.settings a.string.now a.nodes.now (sym c.question-refused.ensures ∙ c.if-refused-ne0.false) (leb-true 65536 _ (sym c.has_room.ensures ∙ c.if-not-has_room.false)) _ _
-    (c.cut_node-used.ensures) (c.cut_node-used.auto.table) _ _ c.finish.ensures
+    finished a.settings a.string.now a.nodes.now (sym c.question-refused.ensures ∙ c.if-refused-ne0.false) (leb-true 65536 _ (sym c.has_room.ensures ∙ c.if-not-has_room.false)) _
+    (c.cut_node-used.auto.table) _ c.cut_node-used.ensures _ _ c.finish.ensures

@@ -1,20 +1,15 @@
-use mathlib.Core.Path.{refl}
-use Prim.Native.Nat.{◌-◌}
-use native.Mathlib.Omega.{arith}
 use Rattle.shingle.proofs.Reading.{size_start, size_zero, size_next, size_end}
 use Rattle.shingle.proofs.list.size.Goals as goal
 
 pub loop-k-init : goal.loop-k-init
-loop-k-init c = (refl, size_start _)
+loop-k-init c = size_start _
 
 pub returns-then-e-eq0 : goal.returns-then-e-eq0
-returns-then-e-eq0 c = size_zero _ _ _ c.get-e.ensures (omega (arith, c.loop-k.invariant.0, c.loop-k-test.true)) c.if-e-eq0.true c.loop-k.invariant.1
+returns-then-e-eq0 c = size_zero _ _ _ c.get-e.ensures c.loop-k-test.true c.if-e-eq0.true c.loop-k.invariant
 
 pub loop-k-preserved : goal.loop-k-preserved
-loop-k-preserved c = (
-  c.loop-k.invariant.0,
-  size_next _ _ _ c.get-e.ensures (omega (arith, c.loop-k.invariant.0, c.loop-k-test.true)) c.if-e-eq0.false c.loop-k.invariant.1,
-)
+loop-k-preserved c =
+    size_next _ _ _ c.get-e.ensures c.loop-k-test.true c.if-e-eq0.false c.loop-k.invariant
 
 pub returns : goal.returns
-returns c = size_end _ _ (omega (arith, c.loop-k.invariant.0, c.loop-k-test.false)) c.loop-k.invariant.1
+returns c = size_end _ _ c.loop-k.auto.k-end c.loop-k-test.false c.loop-k.invariant

@@ -1,10 +1,6 @@
 -- What is written and the stretches still to come are together the whole: the laws of `Merging`.
-use Prim.Native.Nat.{◌-◌}
 use Rattle.shingle.proofs.Merging.{Merging}
 use Rattle.shingle.proofs.merge.merge.Given as goal
 
 abbrev pub invariant-loop-read : goal.invariant-loop-read
 invariant-loop-read l = Merging l.initial.table l.table l.n l.e l.count l.written l.read
-
-abbrev pub decreases-loop-read : goal.decreases-loop-read
-decreases-loop-read l = l.n - l.read

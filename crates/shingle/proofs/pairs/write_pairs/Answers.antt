@@ -1,5 +1,4 @@
 use mathlib.Core.Path.{refl, sym, ◌∙◌}
-use Prim.Native.Nat.{◌-◌}
 use Rattle.shingle.proofs.Listing.{listing_start, listing_next, written_zero, written_full}
 use Rattle.shingle.proofs.pairs.write_pairs.Goals as goal
 

@@ -1,10 +1,6 @@
 -- The pairs written and those still to come are together all: the laws of `Listing`.
-use Prim.Native.Nat.{◌-◌}
 use Rattle.shingle.proofs.Listing.{Listing}
 use Rattle.shingle.proofs.pairs.write_pairs.Given as goal
 
 abbrev pub invariant-loop-i : goal.invariant-loop-i
 invariant-loop-i l = Listing l.nodes l.initial.table l.table l.last l.i
-
-abbrev pub decreases-loop-i : goal.decreases-loop-i
-decreases-loop-i l = 4096 - l.i

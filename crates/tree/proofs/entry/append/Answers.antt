@@ -5,8 +5,8 @@ use Rattle.tree.specs.Places.{placed}
 use Rattle.tree.proofs.Wrote.{wrote_entry, wrote_none}
 use Rattle.tree.proofs.entry.append.Goals as goal
 
-pub returns-then-used-eq4096 : goal.returns-then-used-eq4096
-returns-then-used-eq4096 c = wrote_none _ _ _ c.if-used-eq4096.true
+pub returns-then-used-eq-NODES : goal.returns-then-used-eq-NODES
+returns-then-used-eq-NODES c = wrote_none _ _ _ c.if-used-eq-NODES.true
 
 pub returns : goal.returns
 returns c =
