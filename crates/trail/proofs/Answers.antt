@@ -1,44 +1,50 @@
 -- The questions of the two calls, one law for each way to answer.
-use mathlib.Core.Bool.{Bool, true, false, cond, ◌&&◌}
+use mathlib.Core.Bool.{Bool, true, false, cond, not, ◌&&◌, ◌||◌}
 use mathlib.Core.List.{List, [], ◌∷◌, ◌++◌}
 use mathlib.Core.Path.{◌≡◌, refl, sym, ap, ◌∙◌}
 use Prim.Native.Nat.{ℕ, zero, suc, ◌+◌, ◌-◌, ◌^◌, ◌<◌, ◌≤◌, min}
 use native.Mathlib.Omega.{arith}
-use native.Mathlib.Numerals.{add-one}
-use lib.Dec.{ltb}
-use lib.ListN.{length, get_or, drop, replicate, drop_of_length-le}
-use lib.Seq.{drop-cons}
-use borrow.Author.Tests.{lt-ltb, le-ltb, ltb-true}
+use lib.Dec.{eqb, ltb}
+use lib.ListN.{length, get_or, drop, replicate}
+use borrow.Author.Tests.{lt-ltb, le-ltb, ltb-true, eqb-true, eqb-false}
+use Rattle.std.specs.List.{list_any}
 use Rattle.trail.specs.Trails.{total, rising, pairs_of, trails_over, order_of, trail_number, only_trail, only_over}
-use Rattle.trail.specs.Search.{Answer, Columns, Unbalanced, trails_up_to}
+use Rattle.std.specs.Prelude.{Result}
+use Rattle.trail.specs.Search.{Found, Answer, Columns, Chained, Numberable, Unbalanced, trails_up_to}
 use Rattle.trail.specs.Calls.{nonzero, numberable, unnumbered, number_answer, orderable, refusal, order_answer}
 use Rattle.trail.specs.declared.Numbered.{Numbered}
 use Rattle.trail.specs.declared.Pairs.{Pairs}
 use Rattle.trail.specs.declared.Trail.{Trail}
 use Rattle.trail.proofs.Every.{no_member}
 use Rattle.trail.proofs.Prune.{unbalanced_none}
-use Rattle.trail.proofs.Search.{nothing}
 use Rattle.trail.proofs.Tally.{both_true, Sized}
 use Rattle.trail.proofs.Trails.{sound}
 use Rattle.trail.proofs.Turn.{up_to_all}
 
-pub nonzero_here : (xs : List ℕ) (i : ℕ) → i < length xs → get_or xs i 0 ≡ 0 → nonzero (drop i xs) ≡ false
+nonzero_any : (xs : List ℕ) → nonzero xs ≡ not (list_any (λ y. eqb y 0) xs)
 unfolding nonzero
-nonzero_here xs i h e = rw (drop-cons xs i 0 h, le-ltb 0 (get_or xs i 0) (omega arith))
+nonzero_any [] = refl
+nonzero_any (x ∷ xs) = go (eqb x 0) refl (nonzero_any xs)
+  where
+    go : (b : Bool) → eqb x 0 ≡ b → nonzero xs ≡ not (list_any (λ y. eqb y 0) xs) → (ltb 0 x && nonzero xs) ≡ not (b || list_any (λ y. eqb y 0) xs)
+    go true e h = rw (le-ltb 0 x (omega (arith, eqb-true x 0 e)))
+    go false e h = rw (lt-ltb 0 x (omega (arith, eqb-false x 0 e))) h
 
-pub nonzero_next : (xs : List ℕ) (i : ℕ) → i < length xs → (get_or xs i 0 ≡ 0 → ⊥) → nonzero (drop i xs) ≡ nonzero (drop (i + 1) xs)
-unfolding nonzero
-nonzero_next xs i h f = rw (add-one i, drop-cons xs i 0 h, lt-ltb 0 (get_or xs i 0) (omega arith))
-
-pub nonzero_end : (xs : List ℕ) (i : ℕ) → length xs ≤ i → nonzero (drop i xs) ≡ true
-unfolding nonzero
-nonzero_end xs i h = rw (drop_of_length-le xs {i = i} h)
+-- Whether an id is 0.
+pub nonzero_unless : (xs : List ℕ) {zero : Bool} → zero ≡ list_any (λ y. eqb y 0) xs → nonzero xs ≡ not zero
+nonzero_unless xs e = nonzero_any xs ∙ ap not (sym e)
 
 pub nonzero_at : (xs : List ℕ) → nonzero xs ≡ true → (i : ℕ) → i < length xs → 0 < get_or xs i 0
 unfolding nonzero
 nonzero_at [] e i h = absurd (omega arith)
 nonzero_at (x ∷ xs) e zero h = ltb-true 0 x (both_true (ltb 0 x) (nonzero xs) e).0
 nonzero_at (x ∷ xs) e (suc i) h = nonzero_at xs (both_true (ltb 0 x) (nonzero xs) e).1 i (omega arith)
+
+-- An order without a 0 can be numbered over the table that it was made into.
+pub order_numberable : {xs ps os ps' os' cs : List ℕ} {zero : Bool} → length xs ≤ 32 → zero ≡ list_any (λ y. eqb y 0) xs → zero ≡ false →
+    Chained xs ps os cs → (ps' ≡ ps) × (os' ≡ os) → Numberable xs ps' os' cs
+order_numberable few e f c t =
+    record { few = few; nonzero = nonzero_at _ (nonzero_unless _ e ∙ ap not f); table = record { previous = t.0 ∙ c.previous; own = t.1 ∙ c.own; count = c.count } }
 
 module _ (xs : List ℕ) where
   -- The answer to an order that passes.
@@ -119,33 +125,31 @@ order_accepted pairs number e =
     let h = both_true (ltb number 4096) _ g.1 in
     (ltb-true _ _ f.0, ltb-true _ _ g.0, ltb-true _ _ h.0, ltb-true _ _ h.1)
 
-pub order_found : (pairs : Pairs) (number : ℕ) (r : Trail) (k left : ℕ) (found : Bool) (places : List ℕ) →
+pub order_found : (pairs : Pairs) (number : ℕ) (r : Trail) (k : ℕ) (places : List ℕ) →
     k ≡ min 33 (total pairs.count) → (k ≡ 0 → ⊥) → k ≤ 32 → number ≤ 4095 →
-    Answer (trails_over pairs.previous pairs.own pairs.count) k number found left places → found ≡ true →
+    Found (trails_over pairs.previous pairs.own pairs.count) k number places →
     r.answer ≡ 4294967296 + k → r.k ≡ k → r.ids ≡ drop (32 - k) places ++ replicate (32 - k) 0 →
     r.only ≡ only_over pairs.previous pairs.own pairs.count → r ≡ order_answer pairs number
 unfolding order_of
-order_found pairs number r k left found places s z few small a f e g i h =
+order_found pairs number r k places s z few small f e g i h =
     let size : k ≡ total pairs.count = omega arith in
-    let found_at = a.got f in
-    order_taken pairs number r (omega arith) (omega arith) (omega arith) found_at.0 (e ∙ ap (λ (n : ℕ). 4294967296 + n) size) (g ∙ size)
-    (i ∙ (λ j. found_at.1 j ++ replicate (32 - size j) 0)) h
+    order_taken pairs number r (omega arith) (omega arith) (omega arith) f.there (e ∙ ap (λ (n : ℕ). 4294967296 + n) size) (g ∙ size)
+    (i ∙ (λ j. f.same j ++ replicate (32 - size j) 0)) h
 
 pub number_small : (xs : List ℕ) → trail_number xs ≤ 4096
 unfolding trail_number
 number_small xs = omega arith
 
 -- What the search answers over all trails, and over a multiset that has none.
-pub whole_answer : (ps os cs rest : List ℕ) (last k skip left : ℕ) (found : Bool) (places : List ℕ) → rest ≡ cs → ((i : ℕ) → get_or os i 0 ≤ last) → total cs ≡ k →
-    Answer (trails_up_to last k (rising os) 0 (pairs_of ps os rest)) k skip found left places → Answer (trails_over ps os cs) k skip found left places
+pub whole_answer : (ps os cs rest : List ℕ) (last k skip : ℕ) (r : Result (List ℕ) ℕ) → rest ≡ cs → ((i : ℕ) → get_or os i 0 ≤ last) → total cs ≡ k →
+    Answer (trails_up_to last k (rising os) 0 (pairs_of ps os rest)) k skip os r → Answer (trails_over ps os cs) k skip os r
 unfolding trails_over
-whole_answer ps os cs rest last k skip left found places e bound size a = rw size (rw (e, up_to_all os last k 0 (pairs_of ps os cs) bound) at a)
+whole_answer ps os cs rest last k skip r e bound size a = rw size (rw (e, up_to_all os last k 0 (pairs_of ps os cs) bound) at a)
 
-pub unbalanced_answer : (ps os cs : List ℕ) (k skip left : ℕ) (found : Bool) (places : List ℕ) → Columns ps os cs → Unbalanced ps os cs → found ≡ false → left ≡ skip →
-    Answer (trails_over ps os cs) k skip found left places
+pub unbalanced_answer : (ps os cs : List ℕ) (skip : ℕ) → Columns ps os cs → Unbalanced ps os cs → length (trails_over ps os cs) + skip ≡ skip
 unfolding trails_over
-unbalanced_answer ps os cs k skip left found places c u e f =
-    rw (no_member (unbalanced_none ps os cs c u) (sound (total cs) (rising os) 0 (pairs_of ps os cs) sized), e, f) (nothing k skip places)
+unbalanced_answer ps os cs skip c u =
+    rw (no_member (unbalanced_none ps os cs c u) (sound (total cs) (rising os) 0 (pairs_of ps os cs) sized)) (omega arith)
   where
     sized : Sized (total cs) (pairs_of ps os cs)
     sized = record { previouses = ps; owns = os; counts = cs; long = (c.previous ∙ sym c.count, c.own ∙ sym c.count); gives = refl; size = refl }

@@ -4,8 +4,8 @@ use mathlib.Core.Path.{◌≡◌, refl, sym, ap, ◌∙◌}
 use Prim.Native.Nat.{ℕ, suc, ◌+◌, ◌-◌, ◌<◌, ◌≤◌}
 use native.Mathlib.Omega.{arith}
 use native.Mathlib.Numerals.{add-one}
-use lib.ListN.{length, get_or, set, take, drop, replicate, length-drop, length-replicate, get_or-replicate}
-use lib.Seq.{set_at, take-suc, length-take-le, take_all, get_or-drop}
+use lib.ListN.{length, get_or, set, take, replicate, length-replicate, get_or-replicate}
+use lib.Seq.{set_at, take-suc, length-take-le, take_all}
 use Rattle.trail.specs.Search.{Chained}
 
 pub fill_next : (row source : List ℕ) (n i : ℕ) → i < n → i < length source → row ≡ take i source ++ replicate (n - i) 0 →
@@ -59,14 +59,7 @@ chain_end {xs} {ps} {os} {cs} {v} {i} h c =
       count = fill_end cs (replicate (length xs) 1) 32 i (omega arith) c.count (omega arith) ∙ ap (λ (n : ℕ). replicate (length xs) 1 ++ replicate (32 - n) 0) ones;
     }
 
--- The last k ids at the front, i of them moved.
-pub front_next : (moved ids : List ℕ) (k i from : ℕ) → length ids ≡ 32 → k ≤ 32 → i < k → from ≡ 32 - k → moved ≡ take i (drop (32 - k) ids) ++ replicate (32 - i) 0 →
-    set moved i (get_or ids (from + i) 0) ≡ take (i + 1) (drop (32 - k) ids) ++ replicate (32 - (i + 1)) 0
-front_next moved ids k i from l few h f e =
-    ap (λ (x : ℕ). set moved i x) (ap (λ (n : ℕ). get_or ids (n + i) 0) f ∙ sym (get_or-drop (32 - k) ids i 0))
-    ∙ fill_next moved (drop (32 - k) ids) 32 i (omega arith) (rw (length-drop (32 - k) ids) (omega arith)) e
-
-pub front_end : (moved ids : List ℕ) (k i : ℕ) → length ids ≡ 32 → k ≤ 32 → k ≤ i → i ≤ k → moved ≡ take i (drop (32 - k) ids) ++ replicate (32 - i) 0 → moved ≡ drop (32 - k) ids ++ replicate (32 - k) 0
-front_end moved ids k i l few h b e =
-    let long : length (drop (32 - k) ids) ≡ k = rw (length-drop (32 - k) ids) (omega arith) in
-    fill_end moved (drop (32 - k) ids) 32 i (omega arith) e (omega arith) ∙ ap (λ (n : ℕ). drop (32 - k) ids ++ replicate (32 - n) 0) long
+-- The last k of 32 places at the front.
+pub front_end : (moved source : List ℕ) (k i : ℕ) → length source ≡ k → k ≤ i → i ≤ k → moved ≡ take i source ++ replicate (32 - i) 0 → moved ≡ source ++ replicate (32 - k) 0
+front_end moved source k i l h b e =
+    fill_end moved source 32 i (omega arith) e (omega arith) ∙ ap (λ (n : ℕ). source ++ replicate (32 - n) 0) l

@@ -1,15 +1,16 @@
 -- Laws of linked rows: how a table of links is filled, and how a scan goes on from link to link.
 use mathlib.Core.Path.{◌≡◌, refl, sym, ap, subst, ◌∙◌}
-use mathlib.Core.List.{List, [], ◌∷◌, ◌++◌, map}
+use mathlib.Core.List.{List, [], ◌∷◌, ◌++◌}
 use Prim.Native.Nat.{ℕ, zero, suc, ◌+◌, ◌-◌, ◌<◌, ◌≤◌}
 use native.Mathlib.Omega.{arith}
 use native.Mathlib.Decide.{dec_lt}
 use borrow.Author.Count.{below_more}
 use lib.ListN.{length, get_or, set, take, drop, replicate, length-set, length-map}
 use lib.Seq.{get_or-set_same, get_or-set_other}
-use Rattle.trail.specs.Search.{Leads, Following, Firsts, Afters, Rise, Missed, Clear, led}
+use Rattle.trail.specs.Search.{Following, Firsts, Afters, Missed, Clear, led}
+use Rattle.std.specs.Prelude.{Option, None}
 use Rattle.trail.proofs.Scan.{Scanned, scan_start}
-use Rattle.trail.proofs.Fill.{front_next}
+use Rattle.trail.proofs.Fill.{fill_next}
 
 -- One place more of a list is right.
 filled : (P : ℕ → ℕ → Type 0) (l : List ℕ) (i x : ℕ) → length l ≡ 32 → i < 32 → ((j : ℕ) → j < i → P j (get_or l j 0)) → P i x → (j : ℕ) → j < i + 1 → P j (get_or (set l i x) j 0)
@@ -23,7 +24,7 @@ firsts_more ps os fs i x h f g = record { long = length-set fs i x ∙ f.long; e
 pub afters_more : (ps ls : List ℕ) (i x : ℕ) → i < 32 → Afters ps ls i → Following ps (get_or ps i 0) (i + 1) x → Afters ps (set ls i x) (i + 1)
 afters_more ps ls i x h f g = record { long = length-set ls i x ∙ f.long; each = filled (λ j y. Following ps (get_or ps j 0) (j + 1) y) ls i x f.long h f.each g }
 
-module _ {ps os cs : List ℕ} {v low top best limit : ℕ} where
+module _ {ps os cs : List ℕ} {v low top limit : ℕ} {best : Option ℕ} where
   -- The scan passes over rows that do not leave v.
   scan_over : (n m : ℕ) → ((j : ℕ) → j < m → n ≤ j → j < 32 → get_or ps j 0 ≡ v → ⊥) → Scanned ps os cs v low top n best limit → Scanned ps os cs v low top m best limit
   scan_over n m f s =
@@ -41,14 +42,11 @@ module _ {ps os cs : List ℕ} {v low top best limit : ℕ} where
       let f = a.each n h in
       (scan_over (n + 1) (get_or ls n 0) (λ j g b l q. f.none j g b l (q ∙ sym e)) s, λ g. f.here g ∙ e)
 
-pub scan_from : {ps os cs : List ℕ} {v low top : ℕ} (from : ℕ) → Following ps v 0 from → Scanned ps os cs v low top from 32 top × (from < 32 → get_or ps from 0 ≡ v)
+pub scan_from : {ps os cs : List ℕ} {v low top : ℕ} (from : ℕ) → Following ps v 0 from → Scanned ps os cs v low top from None top × (from < 32 → get_or ps from 0 ≡ v)
 scan_from from f = (scan_over 0 from f.none scan_start, f.here)
 
-pub rises : {ps ls : List ℕ} → Afters ps ls 32 → Rise ls
-rises a = record { long = a.long; on = λ i h. let g = (a.each i h).on in omega arith }
-
 -- Row n, which leaves id, is not missed, nor is a row before it that leaves id: on to the row linked to it.
-pub clear_link : (ps ls cs ms : List ℕ) (id n : ℕ) → n < 32 → Afters ps ls 32 → (Missed cs ms n → ⊥) → Clear ps cs ms id n × (n < 32 → get_or ps n 0 ≡ id) →
+pub clear_link : (ps ls cs : List ℕ) (ms id n : ℕ) → n < 32 → Afters ps ls 32 → (Missed cs ms n → ⊥) → Clear ps cs ms id n × (n < 32 → get_or ps n 0 ≡ id) →
     Clear ps cs ms id (get_or ls n 0) × (get_or ls n 0 < 32 → get_or ps (get_or ls n 0) 0 ≡ id)
 clear_link ps ls cs ms id n h a f c =
     let l = a.each n h in
@@ -74,8 +72,15 @@ led_at os [] at h = absurd (omega arith)
 led_at os (r ∷ rows) zero h = refl
 led_at os (r ∷ rows) (suc at) h = led_at os rows at (omega arith)
 
--- One id more of the last k at the front.
-pub led_next : (os rows moved : List ℕ) (k i from x : ℕ) → x ≡ get_or os (get_or rows (from + i) 0) 0 → length rows ≡ 32 → k ≤ 32 → i < k → from ≡ 32 - k →
-    moved ≡ take i (drop (32 - k) (led os rows)) ++ replicate (32 - i) 0 → set moved i x ≡ take (i + 1) (drop (32 - k) (led os rows)) ++ replicate (32 - (i + 1)) 0
-led_next os rows moved k i from x e l few h f g =
-    ap (λ (y : ℕ). set moved i y) (e ∙ sym (led_at os rows (from + i) (omega arith))) ∙ front_next moved (led os rows) k i from (led_long os rows ∙ l) few h f g
+pub led_drop : (os rows : List ℕ) (n : ℕ) → led os (drop n rows) ≡ drop n (led os rows)
+unfolding led
+led_drop os rows zero = refl
+led_drop os [] (suc n) = refl
+led_drop os (r ∷ rows) (suc n) = led_drop os rows n
+
+-- One id more at the front.
+pub led_next : (os rows moved : List ℕ) (i x : ℕ) → x ≡ get_or os (get_or rows i 0) 0 → length rows ≤ 32 → i < length rows →
+    moved ≡ take i (led os rows) ++ replicate (32 - i) 0 → set moved i x ≡ take (i + 1) (led os rows) ++ replicate (32 - (i + 1)) 0
+led_next os rows moved i x e few h g =
+    let l = led_long os rows in
+    ap (λ (y : ℕ). set moved i y) (e ∙ sym (led_at os rows i h)) ∙ fill_next moved (led os rows) 32 i (omega arith) (omega arith) g

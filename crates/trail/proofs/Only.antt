@@ -1,24 +1,25 @@
 -- Whether a trail is the only one: what a search that skips one trail says of it, and that both ends judge alike.
-use mathlib.Core.Bool.{Bool, true, false, not}
+use mathlib.Core.Bool.{true}
 use mathlib.Core.List.{List}
-use mathlib.Core.Path.{◌≡◌, refl, sym, ap, ◌∙◌}
+use mathlib.Core.Path.{◌≡◌, sym, ap, ◌∙◌}
 use Prim.Native.Nat.{ℕ, ◌<◌}
 use native.Mathlib.Omega.{arith}
 use borrow.Author.Tests.{eq-eqb, ne_eqb, eqb-true}
 use lib.Dec.{eqb}
 use lib.ListN.{length}
 use Rattle.trail.specs.Trails.{pairs_from, pairs_of, trails_over, trail_number, only_trail, only_over}
+use Rattle.std.specs.Prelude.{Result, Ok, Err, is_err}
 use Rattle.trail.specs.Search.{Answer, Numberable}
 use Rattle.trail.proofs.Orders.{same_trails, number_listed}
 use Rattle.trail.proofs.Ranking.{columns, pairs_first}
 
 module _ (ps os cs : List ℕ) where
   -- Where there is a trail, it has another exactly if a search that skips one finds one.
-  pub another : (k left : ℕ) (found : Bool) (places : List ℕ) → 0 < length (trails_over ps os cs) →
-      Answer (trails_over ps os cs) k 1 found left places → not found ≡ only_over ps os cs
+  pub another : (k : ℕ) (owns : List ℕ) (r : Result (List ℕ) ℕ) → 0 < length (trails_over ps os cs) →
+      Answer (trails_over ps os cs) k 1 owns r → is_err r ≡ only_over ps os cs
   unfolding only_over
-  another k left true places there a = sym (ne_eqb (length (trails_over ps os cs)) 1 (λ e. omega (arith, (a.got refl).0, e)))
-  another k left false places there a = sym (eq-eqb (length (trails_over ps os cs)) 1 (omega (arith, there, a.past refl)))
+  another k owns (Ok rows) there f = let l = f.there in sym (ne_eqb (length (trails_over ps os cs)) 1 (λ e. omega arith))
+  another k owns (Err left) there p = sym (eq-eqb (length (trails_over ps os cs)) 1 (omega arith))
 
   module _ (long : (length ps ≡ length cs) × (length os ≡ length cs)) (xs : List ℕ) (pairs : pairs_from 0 xs ≡ pairs_of ps os cs) where
     -- Over the pairs of an order and over any table that gives them there are the same trails: sender and receiver judge alike.

@@ -7,9 +7,11 @@ use Prim.Native.Nat.{ℕ, ◌+◌, ◌<◌, ◌≤◌}
 use native.Mathlib.Omega.{arith}
 use lib.Dec.{eqb}
 use lib.ListN.{length, get_or}
-use borrow.Author.Tests.{eq-eqb, ne_eqb}
+use borrow.Author.Tests.{eq-eqb, ne_eqb, eqb-true, eqb-false}
 use Rattle.trail.specs.Trails.{Multiset, single, pairs_from, tally, pairs_of}
-use Rattle.trail.specs.Search.{Columns, Missed, Apart, Unbalanced}
+use Rattle.std.specs.Int.{from_bool}
+use Rattle.std.specs.Prelude.{Option, Some, None, IfSome, is_some}
+use Rattle.trail.specs.Search.{Columns, Following, Missed, Apart, Lost, Unbalanced}
 use Rattle.trail.proofs.Tally.{same_pair, PairRow, pair_row, row_pair}
 use Rattle.trail.proofs.Trails.{step_there}
 use Rattle.trail.proofs.Weigh.{passing, weigh}
@@ -43,14 +45,18 @@ tally_own test (p ∷ ps) [] cs e = refl
 tally_own test (p ∷ ps) (o ∷ os) [] e = refl
 tally_own test (p ∷ ps) (o ∷ os) (c ∷ cs) e = ap (λ (n : ℕ). cond (test o) c 0 + n) (tally_own test ps os cs (omega arith))
 
--- What the test of the balance finds.
-pub unbalanced_start : (ps os cs : List ℕ) (id leaving entering : ℕ) → id ≡ 0 → leaving ≡ tally (λ p o. eqb p id) ps ps cs → entering ≡ tally (λ p o. eqb p id) os os cs →
-    entering + 1 < leaving → Unbalanced ps os cs
-unbalanced_start ps os cs id leaving entering z l e h = record { id = id; more = rw (eq-eqb 0 id (sym z)) (omega arith) }
+pub from_bool_le : (b : Bool) → from_bool b ≤ 1
+from_bool_le true = omega arith
+from_bool_le false = omega arith
 
-pub unbalanced_other : (ps os cs : List ℕ) (id leaving entering : ℕ) → (id ≡ 0 → ⊥) → leaving ≡ tally (λ p o. eqb p id) ps ps cs → entering ≡ tally (λ p o. eqb p id) os os cs →
-    entering < leaving → Unbalanced ps os cs
-unbalanced_other ps os cs id leaving entering z l e h = record { id = id; more = rw (ne_eqb 0 id (λ q. z (sym q))) (omega arith) }
+-- What the test of the balance finds.
+pub unbalanced : (ps os cs : List ℕ) (id leaving entering start : ℕ) → leaving ≡ tally (λ p o. eqb p id) ps ps cs → entering ≡ tally (λ p o. eqb p id) os os cs →
+    start ≡ from_bool (eqb id 0) → entering + start < leaving → Unbalanced ps os cs
+unbalanced ps os cs id leaving entering start l e s h = record { id = id; more = go (eqb id 0) refl s }
+  where
+    go : (b : Bool) → eqb id 0 ≡ b → start ≡ from_bool b → tally (λ p o. eqb p id) os os cs + cond (eqb 0 id) 1 0 < tally (λ p o. eqb p id) ps ps cs
+    go true t f = rw (eq-eqb 0 id (sym (eqb-true id 0 t))) (omega arith)
+    go false t f = rw (ne_eqb 0 id (λ q. eqb-false id 0 t (sym q))) (omega arith)
 
 -- Then there is no trail.
 pub unbalanced_none : (ps os cs : List ℕ) → Columns ps os cs → Unbalanced ps os cs → (xs : List ℕ) → pairs_from 0 xs ≡ pairs_of ps os cs → ⊥
@@ -61,7 +67,7 @@ unbalanced_none ps os cs long u xs e =
     let m = u.more in
     omega arith
 
-module _ (ps os cs marks : List ℕ) (long : Columns ps os cs) where
+module _ (ps os cs : List ℕ) (marks : ℕ) (long : Columns ps os cs) where
   -- No missed row leaves u.
   abbrev Outside : ℕ → Type 0
   Outside u = (j : ℕ) → j < 32 → Missed cs marks j → get_or ps j 0 ≡ u → ⊥
@@ -94,3 +100,8 @@ module _ (ps os cs marks : List ℕ) (long : Columns ps os cs) where
       let left = m.unused in
       let there : 0 < pairs_from v xs u w = subst (λ (f : Multiset). 0 < f u w) (sym e) (let z : 0 < pairs_of ps os cs u w = omega arith in z) in
       walks v a v xs (λ j l m e. (a j l m).0 e) (λ u w h. subst (λ (f : Multiset). 0 < f u w) e h) u w there j l m refl
+
+  pub shut_lost : (v : ℕ) {from : ℕ} → Following ps v 0 from → (missed : Option ℕ) →
+      IfSome missed (λ j. (j < 32) × Missed cs marks j × ((v : ℕ) → Following ps v 0 from → Apart ps os cs marks v 32)) → is_some missed ≡ true → Lost v (pairs_of ps os cs)
+  shut_lost v f None m e = cc
+  shut_lost v f (Some j) m e = shut_none v j (m.2 v f) m.0 m.1

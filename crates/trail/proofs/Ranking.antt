@@ -1,5 +1,4 @@
 -- Numbering over the table of a sequence's own pairs: after d steps, what is counted so far and what is still to be counted make the whole number.
-use mathlib.Core.Bool.{Bool, true, false}
 use mathlib.Core.List.{List, [], ◌∷◌, Memᴰ}
 use mathlib.Core.Path.{◌≡◌, refl, sym, ap, subst, ◌∙◌}
 use Prim.Native.Nat.{ℕ, suc, ◌+◌, ◌-◌, ◌<◌, ◌≤◌}
@@ -8,7 +7,7 @@ use native.Mathlib.Numerals.{add-one}
 use lib.ListN.{length, get_or, set, take, drop, replicate, length-append, length-set, length-replicate, get_or-replicate, drop_of_length-le, get_or-append}
 use lib.Seq.{drop-cons, length-take-le, get_or-take, get_or-set_other}
 use Rattle.trail.specs.Trails.{Multiset, pairs_from, without, pairs_of, total, rising, trails_from, before, count_before, trails_like, trail_number}
-use Rattle.trail.specs.Search.{trails_within, trails_up_to, Columns, Ready, Answer, Numberable}
+use Rattle.trail.specs.Search.{trails_within, trails_up_to, Columns, Numberable}
 use Rattle.trail.proofs.Ids.{Up, rising_up}
 use Rattle.trail.proofs.Numbering.{branches_count}
 use Rattle.trail.proofs.Tally.{total-set, without_row}
@@ -91,12 +90,6 @@ count_start {xs} {ps} {os} {cs₀} n e =
       count = rw (all, alike xs ps os cs₀ n) (omega arith);
     })
 
-pub count_ready : {xs ps os cs₀ ns cs : List ℕ} {v skip d : ℕ} → Numberable xs ps os cs₀ → length ns ≡ 32 → Counting xs ps os cs v skip d → Ready ps os ns cs (length xs - d)
-count_ready {xs} {ps} {os} {cs₀} n l c =
-    let w = columns xs ps os cs₀ n in
-    let few = n.few in
-    record { columns = record { previous = w.previous; own = w.own; count = c.long }; next = l; size = c.size; few = omega arith }
-
 module _ {xs ps os cs₀ cs : List ℕ} {v skip d : ℕ} (n : Numberable xs ps os cs₀) (c : Counting xs ps os cs v skip d) (h : d < length xs) where
   split : drop d xs ≡ get_or xs d 0 ∷ drop (d + 1) xs
   split = rw (add-one d) (drop-cons xs d 0 h)
@@ -113,10 +106,9 @@ module _ {xs ps os cs₀ cs : List ℕ} {v skip d : ℕ} (n : Numberable xs ps o
       rw (from_here, more) (ap (λ (m : ℕ). (4096 - skip) + m) (sym (count_step (get_or xs d 0) (drop (d + 1) xs) (rising os) v (length xs - (d + 1)) (rising_up os) mem (n.nonzero d h)))
       ∙ (λ j. (4096 - skip) + count_before (sym split j) (trails_from (sym more j) (rising os) v (pairs_from v (sym split j)))) ∙ c.count)
 
-  pub count_next : {found : Bool} {left : ℕ} {places : List ℕ} → found ≡ false →
-      Answer (trails_up_to (get_or xs d 0 - 1) (length xs - d) (rising os) v (pairs_of ps os cs)) (length xs - d) skip found left places →
+  pub count_next : {left : ℕ} → length (trails_up_to (get_or xs d 0 - 1) (length xs - d) (rising os) v (pairs_of ps os cs)) + left ≡ skip →
       Counting xs ps os (set cs d 0) (get_or xs d 0) left (d + 1)
-  count_next {found} {left} f a =
+  count_next {left} p =
       let w = columns xs ps os cs₀ n in
       let few = n.few in
       let one : get_or cs d 0 ≡ 1 = c.ones d (omega arith) h in
@@ -126,7 +118,6 @@ module _ {xs ps os cs₀ cs : List ℕ} {v skip d : ℕ} (n : Numberable xs ps o
       let hc : d < length cs = rw c.long (omega arith) in
       let t = total-set cs d 0 hc in
       let s = c.size in
-      let p : length (trails_up_to (get_or xs d 0 - 1) (length xs - d) (rising os) v (pairs_of ps os cs)) + left ≡ skip = a.past f in
       let g = c.cap in
       let e = counted in
       record {
@@ -141,11 +132,9 @@ module _ {xs ps os cs₀ cs : List ℕ} {v skip d : ℕ} (n : Numberable xs ps o
         count = omega arith;
       }
 
-  pub count_over : {found : Bool} {left : ℕ} {places : List ℕ} → found ≡ true →
-      Answer (trails_up_to (get_or xs d 0 - 1) (length xs - d) (rising os) v (pairs_of ps os cs)) (length xs - d) skip found left places → 4096 ≡ trail_number xs
+  pub count_over : skip < length (trails_up_to (get_or xs d 0 - 1) (length xs - d) (rising os) v (pairs_of ps os cs)) → 4096 ≡ trail_number xs
   unfolding trail_number
-  count_over f a =
-      let p : skip < length (trails_up_to (get_or xs d 0 - 1) (length xs - d) (rising os) v (pairs_of ps os cs)) = (a.got f).0 in
+  count_over p =
       let g = c.cap in
       let e = counted in
       omega arith

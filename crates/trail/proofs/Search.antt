@@ -9,7 +9,7 @@ use lib.ListN.{length, get_or, set, drop, length-append, length-map, length-set,
 use lib.Seq.{drop-cons, get_or-set_same, drop-set-lt, get_or-append-add}
 use borrow.Author.Tests.{lt-ltb, ltb-true, le-leb, lt-leb, leb-true}
 use Rattle.trail.specs.Trails.{Multiset, without, over, branches}
-use Rattle.trail.specs.Search.{keep, within, Answer}
+use Rattle.trail.specs.Search.{keep, within, Found}
 use Rattle.trail.proofs.Every.{Every, none, also, every_member, empty, first}
 use Rattle.trail.proofs.Ids.{Up}
 
@@ -84,16 +84,9 @@ next_branch rest low top x v pairs (first {x = y} {xs = ids} up r) (Memᴰ.tail 
     ∙ ap (λ (ys : List ℕ). map (λ (xs : List ℕ). x ∷ xs) (rest x (without v x pairs)) ++ branches rest ys v pairs) (sym (less_kept x top y ids (every_member up m)))
 
 -- A multiset's trails, found by skipping: what is found in the first part of a list, or in the rest after it.
-pub nothing : (k skip : ℕ) (ids : List ℕ) → Answer [] k skip false skip ids
-nothing k skip ids = record { got = λ e. absurd (let n : ◌≡◌ {A = ℕ} 0 1 = cc in omega arith); past = λ e. omega arith }
-
 -- The one trail with no id.
-pub leaf_found : (skip left : ℕ) (ids : List ℕ) {found : Bool} → found ≡ true → skip ≡ 0 → length ids ≡ 32 → Answer ([] ∷ []) 0 skip found left ids
-leaf_found skip left ids f z e =
-    rw (f, z) (record { got = λ h. (omega arith, drop_of_length-le ids {i = 32} (omega arith)); past = λ h. absurd (let n : ◌≡◌ {A = ℕ} 0 1 = cc in omega arith) })
-
-pub leaf_past : (skip left : ℕ) (ids : List ℕ) (found : Bool) → 0 < skip → found ≡ false → left ≡ skip - 1 → Answer ([] ∷ []) 0 skip found left ids
-leaf_past skip left ids found h f e = rw (f, e) (record { got = λ g. absurd (let n : ◌≡◌ {A = ℕ} 0 1 = cc in omega arith); past = λ g. omega arith })
+pub leaf_found : (skip : ℕ) (ids : List ℕ) → skip ≡ 0 → length ids ≡ 32 → Found ([] ∷ []) 0 skip ids
+leaf_found skip ids z e = rw z (record { there = omega arith; same = drop_of_length-le ids {i = 32} (omega arith) })
 
 drop_put : (k x : ℕ) (ids : List ℕ) → length ids ≡ 32 → k < 32 → drop (32 - suc k) (set ids (32 - suc k) x) ≡ x ∷ drop (32 - k) ids
 drop_put k x ids e h =
@@ -109,25 +102,26 @@ get_d_front x (ys ∷ list) rest zero h = refl
 get_d_front x (ys ∷ list) rest (suc n) h = get_d_front x list rest n (omega arith)
 
 -- Found among the trails that go on over x.
-pub branch_found : (x k skip left left' : ℕ) (list rest : List (List ℕ)) (ids : List ℕ) → length ids ≡ 32 → k < 32 → Answer list k skip true left ids →
-    Answer (map (λ (xs : List ℕ). x ∷ xs) list ++ rest) (suc k) skip true left' (set ids (32 - suc k) x)
-branch_found x k skip left left' list rest ids e h a =
-    let g = a.got refl in
-    let l : skip < length list = g.0 in
+pub branch_found : (x k skip : ℕ) (list rest : List (List ℕ)) (ids : List ℕ) → length ids ≡ 32 → k < 32 → Found list k skip ids →
+    Found (map (λ (xs : List ℕ). x ∷ xs) list ++ rest) (suc k) skip (set ids (32 - suc k) x)
+branch_found x k skip list rest ids e h f =
+    let l = f.there in
     record {
-      got = λ f. (simp (length-append, length-map) (omega arith), drop_put k x ids e h ∙ ap (λ (ys : List ℕ). x ∷ ys) g.1 ∙ sym (get_d_front x list rest skip l));
-      past = λ f. absurd (let n : ◌≡◌ {A = ℕ} 0 1 = cc in omega arith);
+      there = simp (length-append, length-map) (omega arith);
+      same = drop_put k x ids e h ∙ ap (λ (ys : List ℕ). x ∷ ys) f.same ∙ sym (get_d_front x list rest skip l);
     }
 
 -- Not among them: what is found in the rest after what is left to skip.
-pub branch_past : (x k skip left : ℕ) (list rest : List (List ℕ)) (ids : List ℕ) → Answer list k skip false left ids →
-    (found : Bool) (left' : ℕ) (ids' : List ℕ) → Answer rest (suc k) left found left' ids' → Answer (map (λ (xs : List ℕ). x ∷ xs) list ++ rest) (suc k) skip found left' ids'
-branch_past x k skip left list rest ids a found left' ids' b =
-    let p : length list + left ≡ skip = a.past refl in
+pub rest_found : (x k skip left : ℕ) (list rest : List (List ℕ)) (ids : List ℕ) → length list + left ≡ skip → Found rest k left ids →
+    Found (map (λ (xs : List ℕ). x ∷ xs) list ++ rest) k skip ids
+rest_found x k skip left list rest ids p f =
+    let l = f.there in
     record {
-      got = λ e. (
-        simp (length-append, length-map) (let g : left < length rest = (b.got e).0 in omega arith),
-        (b.got e).1 ∙ sym (ap (λ (n : ℕ). get_or (map (λ (xs : List ℕ). x ∷ xs) list ++ rest) n []) (sym p ∙ ap (λ (n : ℕ). n + left) (sym (length-map list (λ (xs : List ℕ). x ∷ xs)))) ∙ get_or-append-add (map (λ (xs : List ℕ). x ∷ xs) list) rest left []),
-      );
-      past = λ e. simp (length-append, length-map) (let g : length rest + left' ≡ left = b.past e in omega arith);
+      there = simp (length-append, length-map) (omega arith);
+      same = f.same ∙ sym (ap (λ (n : ℕ). get_or (map (λ (xs : List ℕ). x ∷ xs) list ++ rest) n []) (sym p ∙ ap (λ (n : ℕ). n + left) (sym (length-map list (λ (xs : List ℕ). x ∷ xs)))) ∙ get_or-append-add (map (λ (xs : List ℕ). x ∷ xs) list) rest left []);
     }
+
+-- Nor there.
+pub rest_past : (x skip left less : ℕ) (list rest : List (List ℕ)) → length list + left ≡ skip → length rest + less ≡ left →
+    length (map (λ (xs : List ℕ). x ∷ xs) list ++ rest) + less ≡ skip
+rest_past x skip left less list rest p q = simp (length-append, length-map) (omega arith)

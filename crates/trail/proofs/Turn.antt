@@ -1,56 +1,57 @@
 -- The turns of the search, over plain lists and numbers: each need of its proof is one of these laws.
-use mathlib.Core.Bool.{Bool, true, false, cond}
 use mathlib.Core.List.{List, [], ◌∷◌, ◌++◌, map}
 use mathlib.Core.Path.{◌≡◌, refl, sym, ap, subst, ◌∙◌}
 use Prim.Native.Nat.{ℕ, zero, suc, ◌+◌, ◌-◌, ◌<◌, ◌≤◌}
 use native.Mathlib.Omega.{arith}
 use native.Mathlib.Numerals.{add-one}
-use lib.Dec.{ltb}
-use lib.ListN.{length, get_or, set, length-set}
-use borrow.Author.Tests.{le-leb, lt-ltb, ltb-true}
-use Rattle.trail.specs.Trails.{Multiset, pairs_from, without, pairs_of, rising, branches, trails_from}
-use Rattle.trail.specs.Search.{keep, within, trails_within, trails_up_to, Columns, Leads, Least, Ready, Answer, Lost, led}
+use lib.ListN.{length, get_or, set}
+use borrow.Author.Tests.{le-leb}
+use Rattle.trail.specs.Trails.{Multiset, pairs_from, without, pairs_of, total, rising, branches, trails_from}
+use Rattle.std.specs.Prelude.{Option, Some, None, Result}
+use Rattle.trail.specs.Search.{keep, within, trails_within, trails_up_to, Columns, Leads, Least, Ready, Found, Answer, Lost, led}
 use Rattle.trail.proofs.Every.{Every, none, also, weaken, no_member}
 use Rattle.trail.proofs.Ids.{rising_up, every_rising}
 use Rattle.trail.proofs.Tally.{total-set, PairRow, pair_row, row_pair, without_row, Sized, sized_without}
 use Rattle.trail.proofs.Trails.{step_back, every_branch, sound}
 use Rattle.trail.proofs.Weigh.{owns_cover}
 use Rattle.trail.proofs.Linking.{led_long, led-set}
-use Rattle.trail.proofs.Search.{no_branch, next_branch, nothing, branch_found, branch_past}
+use Rattle.trail.proofs.Search.{no_branch, next_branch, branch_found, rest_found, rest_past}
 
 -- A search that goes on with the ids from low on, `left` trails still to be skipped, answers the whole search.
 pub record Onward (top k : ℕ) (ids : List ℕ) (v : ℕ) (pairs : Multiset) (skip left low : ℕ) : Type 0 where
-  pub so : (found : Bool) (left' : ℕ) (places : List ℕ) → Answer (trails_within low top (k - 1) ids v pairs) k left found left' places →
-      Answer (trails_up_to top k ids v pairs) k skip found left' places
+  pub found : (places : List ℕ) → Found (trails_within low top (k - 1) ids v pairs) k left places → Found (trails_up_to top k ids v pairs) k skip places
+  pub past : (less : ℕ) → length (trails_within low top (k - 1) ids v pairs) + less ≡ left → length (trails_up_to top k ids v pairs) + less ≡ skip
 
 module _ (top : ℕ) (ids : List ℕ) (v : ℕ) (pairs : Multiset) where
-  pub leaf_answer : (k skip left : ℕ) (found : Bool) (places : List ℕ) → k ≡ 0 → Answer ([] ∷ []) 0 skip found left places → Answer (trails_up_to top k ids v pairs) k skip found left places
+  pub leaf_answer : (k skip : ℕ) (owns : List ℕ) (r : Result (List ℕ) ℕ) → k ≡ 0 → Answer ([] ∷ []) 0 skip owns r → Answer (trails_up_to top k ids v pairs) k skip owns r
   unfolding trails_up_to
-  leaf_answer k skip left found places e a = rw e a
+  leaf_answer k skip owns r e a = rw e a
 
   pub onward_start : (k skip : ℕ) → (k ≡ 0 → ⊥) → Onward top k ids v pairs skip skip 0
   onward_start zero skip h = absurd (h refl)
-  onward_start (suc k) skip h = record { so = λ found left' places a. start found left' places a }
+  onward_start (suc k) skip h =
+      let e : trails_within 0 top (suc k - 1) ids v pairs ≡ trails_up_to top (suc k) ids v pairs = same in
+      record {
+        found = λ places f. subst (λ (list : List (List ℕ)). Found list (suc k) skip places) e f;
+        past = λ less p. subst (λ (list : List (List ℕ)). length list + less ≡ skip) e p;
+      }
     where
       less : suc k - 1 ≡ k
       less = omega arith
 
-      start : (found : Bool) (left' : ℕ) (places : List ℕ) → Answer (trails_within 0 top (suc k - 1) ids v pairs) (suc k) skip found left' places →
-          Answer (trails_up_to top (suc k) ids v pairs) (suc k) skip found left' places
-      start found left' places a = unfold trails_up_to in subst (λ (n : ℕ). Answer (trails_within 0 top n ids v pairs) (suc k) skip found left' places) less a
+      same : trails_within 0 top (suc k - 1) ids v pairs ≡ trails_up_to top (suc k) ids v pairs
+      same = unfold trails_up_to in ap (λ (n : ℕ). trails_within 0 top n ids v pairs) less
 
   -- Nothing is left to try.
-  pub onward_none : (k skip left low left' : ℕ) (found : Bool) (places : List ℕ) → Onward top k ids v pairs skip left low →
-      trails_within low top (k - 1) ids v pairs ≡ [] → found ≡ false → left' ≡ left → Answer (trails_up_to top k ids v pairs) k skip found left' places
-  onward_none k skip left low left' found places o e f g =
-      o.so found left' places (subst (λ (list : List (List ℕ)). Answer list k left found left' places) (sym e) (rw (f, g) (nothing k left places)))
+  pub onward_none : (k skip left low : ℕ) → Onward top k ids v pairs skip left low →
+      trails_within low top (k - 1) ids v pairs ≡ [] → length (trails_up_to top k ids v pairs) + left ≡ skip
+  onward_none k skip left low o e = o.past left (rw e (omega arith))
 
 -- No trail goes on: nothing to skip.
-pub lost_answer : (ps os ns cs : List ℕ) (top v k skip left : ℕ) (found : Bool) (places : List ℕ) → Ready ps os ns cs k → Lost v (pairs_of ps os cs) →
-    (k ≡ 0 → ⊥) → found ≡ false → left ≡ skip → Answer (trails_up_to top k (rising os) v (pairs_of ps os cs)) k skip found left places
-lost_answer ps os ns cs top v zero skip left found places r l z f g = absurd (z refl)
-lost_answer ps os ns cs top v (suc k) skip left found places r l z f g =
-    subst (λ (list : List (List ℕ)). Answer list (suc k) skip found left places) (sym (no_member l all)) (rw (f, g) (nothing (suc k) skip places))
+pub lost_answer : (ps os cs : List ℕ) (top v k skip : ℕ) → Ready ps os cs k → Lost v (pairs_of ps os cs) →
+    (k ≡ 0 → ⊥) → length (trails_up_to top k (rising os) v (pairs_of ps os cs)) + skip ≡ skip
+lost_answer ps os cs top v zero skip r l z = absurd (z refl)
+lost_answer ps os cs top v (suc k) skip r l z = rw (no_member l all) (omega arith)
   where
     pairs : Multiset
     pairs = pairs_of ps os cs
@@ -72,18 +73,19 @@ module _ (ps os cs : List ℕ) (long : Columns ps os cs) where
       let e : get_or os r.at 0 ≡ y = r.own in
       (r.at, omega arith, record { leaves = r.previous; unused = r.left; above = omega arith; below = omega arith }, e)
 
-  pub least_none : (v low top k r : ℕ) → Least ps os cs v low top 32 r → 32 ≤ r → trails_within low top k (rising os) v (pairs_of ps os cs) ≡ []
+  pub least_none : (v low top k : ℕ) → Least ps os cs v low top 32 None → trails_within low top k (rising os) v (pairs_of ps os cs) ≡ []
   unfolding trails_within
-  least_none v low top k r m h = no_branch (λ x fewer. trails_from k (rising os) x fewer) low top (rising os) v (pairs_of ps os cs)
-      (λ y hl ht p. let l = leading v low top y hl ht p in let z = (m.least l.0 l.1 l.2).0 in omega arith)
+  least_none v low top k m = no_branch (λ x fewer. trails_from k (rising os) x fewer) low top (rising os) v (pairs_of ps os cs)
+      (λ y hl ht p. let l = leading v low top y hl ht p in m.least l.0 l.1 l.2)
 
   -- First the trails over the least id, then those of greater ids.
-  least_first : (v low top k r : ℕ) → Least ps os cs v low top 32 r → r < 32 →
+  least_first : (v low top k r : ℕ) → Least ps os cs v low top 32 (Some r) →
       trails_within low top k (rising os) v (pairs_of ps os cs)
       ≡ map (λ (xs : List ℕ). get_or os r 0 ∷ xs) (trails_from k (rising os) (get_or os r 0) (pairs_of ps os (set cs r (get_or cs r 0 - 1)))) ++ trails_within (get_or os r 0 + 1) top k (rising os) v (pairs_of ps os cs)
   unfolding trails_within
-  least_first v low top k r m h =
-      let l : Leads ps os cs v low top r = m.row h in
+  least_first v low top k r m =
+      let h = m.row.0 in
+      let l : Leads ps os cs v low top r = m.row.1 in
       let hp : r < length ps = rw long.previous h in
       let ho : r < length os = rw long.own h in
       let hc : r < length cs = rw long.count h in
@@ -92,26 +94,16 @@ module _ (ps os cs : List ℕ) (long : Columns ps os cs) where
       let here : 0 < pairs_of ps os cs v (get_or os r 0) = subst (λ (z : ℕ). 0 < pairs_of ps os cs z (get_or os r 0)) l.leaves (omega arith) in
       rw (add-one (get_or os r 0))
       (next_branch (λ x fewer. trails_from k (rising os) x fewer) low top (get_or os r 0) v (pairs_of ps os cs) (rising_up os) (owns_cover ps os cs v (get_or os r 0) here) l.above l.below here
-      (λ y hl ht q. let g = leading v low top y hl ht q in let e : get_or os g.0 0 ≡ y = g.3 in let z = (m.least g.0 g.1 g.2).1 in omega arith)
+      (λ y hl ht q. let g = leading v low top y hl ht q in let e : get_or os g.0 0 ≡ y = g.3 in let z = m.least g.0 g.1 g.2 in omega arith)
       ∙ ap (λ (pairs : Multiset). map (λ (xs : List ℕ). get_or os r 0 ∷ xs) (trails_from k (rising os) (get_or os r 0) pairs) ++ branches (λ x fewer. trails_from k (rising os) x fewer) (keep (within (suc (get_or os r 0)) top) (rising os)) v (pairs_of ps os cs))
       (sym (without_row ps os cs r hp ho hc u ∙ ap (λ (z : ℕ). without z (get_or os r 0) (pairs_of ps os cs)) l.leaves)))
 
-pub ready_spent : (ps os ns cs rest : List ℕ) (k r : ℕ) → Ready ps os ns cs k → r < 32 → 0 < get_or cs r 0 → rest ≡ set cs r (get_or cs r 0 - 1) → Ready ps os ns rest (k - 1)
-ready_spent ps os ns cs rest k r a h u e =
-    let hc : r < length cs = rw a.columns.count h in
-    let t = total-set cs r (get_or cs r 0 - 1) hc in
-    let s = a.size in
-    let f = a.few in
-    record {
-      columns = record { previous = a.columns.previous; own = a.columns.own; count = rw (e, length-set cs r (get_or cs r 0 - 1)) a.columns.count };
-      next = a.next;
-      size = rw e (omega arith);
-      few = omega arith;
-    }
+pub ready : {ps os cs : List ℕ} {k : ℕ} → length ps ≡ 32 → length os ≡ 32 → length cs ≡ 32 → total cs ≡ k → k ≤ 32 → Ready ps os cs k
+ready p o c s f = record { columns = record { previous = p; own = o; count = c }; size = s; few = f }
 
--- Equal counts.
-pub ready_same : (ps os ns cs rest : List ℕ) (k : ℕ) → rest ≡ cs → Ready ps os ns cs k → Ready ps os ns rest k
-ready_same ps os ns cs rest k e a = subst (λ (list : List ℕ). Ready ps os ns list k) (sym e) a
+-- A pair of row r is used.
+pub total_spent : (cs : List ℕ) (k r : ℕ) → total cs ≡ k → r < length cs → 0 < get_or cs r 0 → total (set cs r (get_or cs r 0 - 1)) ≡ k - 1
+total_spent cs k r s h u = let t = total-set cs r (get_or cs r 0 - 1) h in omega arith
 
 every_below : (os : List ℕ) (n : ℕ) → ((i : ℕ) → get_or os i 0 ≤ n) → Every (λ y. y ≤ n) os
 every_below [] n h = none
@@ -127,54 +119,52 @@ unfolding trails_up_to trails_within trails_from
 up_to_all os top zero v pairs h = refl
 up_to_all os top (suc k) v pairs h = rw (keep_all top (every_rising (every_below os top h)))
 
-module _ (ps os ns cs rest : List ℕ) (top last v k skip left low r : ℕ) (a : Ready ps os ns cs k) (z : k ≡ 0 → ⊥)
-    (o : Onward top k (rising os) v (pairs_of ps os cs) skip left low) (m : Least ps os cs v low top 32 r) (h : r < 32)
-    (e : rest ≡ set cs r (get_or cs r 0 - 1)) (bound : (i : ℕ) → get_or os i 0 ≤ last) where
-  -- The trails from low on, by what the search below them answers for.
+module _ (ps os cs : List ℕ) (top last v k skip left low r : ℕ) (a : Ready ps os cs k) (z : k ≡ 0 → ⊥)
+    (o : Onward top k (rising os) v (pairs_of ps os cs) skip left low) (m : Least ps os cs v low top 32 (Some r))
+    (bound : (i : ℕ) → get_or os i 0 ≤ last) where
+  -- What the search below answers for.
+  abbrev below : List (List ℕ)
+  below = trails_up_to last (k - 1) (rising os) (get_or os r 0) (pairs_of ps os (set cs r (get_or cs r 0 - 1)))
+
+  -- The trails from low on.
   parts : trails_within low top (k - 1) (rising os) v (pairs_of ps os cs)
-      ≡ map (λ (xs : List ℕ). get_or os r 0 ∷ xs) (trails_up_to last (k - 1) (rising os) (get_or os r 0) (pairs_of ps os rest)) ++ trails_within (get_or os r 0 + 1) top (k - 1) (rising os) v (pairs_of ps os cs)
-  parts = rw (up_to_all os last (k - 1) (get_or os r 0) (pairs_of ps os rest) bound, e) (least_first ps os cs a.columns v low top (k - 1) r m h)
+      ≡ map (λ (xs : List ℕ). get_or os r 0 ∷ xs) below ++ trails_within (get_or os r 0 + 1) top (k - 1) (rising os) v (pairs_of ps os cs)
+  parts = rw (up_to_all os last (k - 1) (get_or os r 0) (pairs_of ps os (set cs r (get_or cs r 0 - 1))) bound) (least_first ps os cs a.columns v low top (k - 1) r m)
 
   more : suc (k - 1) ≡ k
   more = omega arith
 
-  pub found_answer : (found found'' : Bool) (left' left'' : ℕ) (rows rows'' : List ℕ) → length rows ≡ 32 → found ≡ true →
-      Answer (trails_up_to last (k - 1) (rising os) (get_or os r 0) (pairs_of ps os rest)) (k - 1) left found left' (led os rows) →
-      (found'' ≡ true) × (rows'' ≡ set rows (32 - k) r) → Answer (trails_up_to top k (rising os) v (pairs_of ps os cs)) k skip found'' left'' (led os rows'')
-  found_answer found found'' left' left'' rows rows'' l f b g =
+  pub found_answer : (rows : List ℕ) → length rows ≡ 32 → Found below (k - 1) left (led os rows) →
+      Found (trails_up_to top k (rising os) v (pairs_of ps os cs)) k skip (led os (set rows (32 - k) r))
+  found_answer rows l b =
       let few = a.few in
-      rw (g.0, g.1)
-      (subst (λ (places : List ℕ). Answer (trails_up_to top k (rising os) v (pairs_of ps os cs)) k skip true left'' places) (led-set os rows (32 - k) r)
-      (o.so true left'' (set (led os rows) (32 - k) (get_or os r 0))
-      (rw parts (subst (λ (n : ℕ). Answer (map (λ (xs : List ℕ). get_or os r 0 ∷ xs) (trails_up_to last (k - 1) (rising os) (get_or os r 0) (pairs_of ps os rest)) ++ trails_within (get_or os r 0 + 1) top (k - 1) (rising os) v (pairs_of ps os cs)) n left true left'' (set (led os rows) (32 - n) (get_or os r 0))) more
-      (branch_found (get_or os r 0) (k - 1) left left' left'' _ _ (led os rows) (led_long os rows ∙ l) (omega arith) (rw f at b))))))
+      subst (λ (places : List ℕ). Found (trails_up_to top k (rising os) v (pairs_of ps os cs)) k skip places) (led-set os rows (32 - k) r)
+      (o.found (set (led os rows) (32 - k) (get_or os r 0))
+      (rw parts (subst (λ (n : ℕ). Found (map (λ (xs : List ℕ). get_or os r 0 ∷ xs) below ++ trails_within (get_or os r 0 + 1) top (k - 1) (rising os) v (pairs_of ps os cs)) n left (set (led os rows) (32 - n) (get_or os r 0))) more
+      (branch_found (get_or os r 0) (k - 1) left _ _ (led os rows) (led_long os rows ∙ l) (omega arith) b))))
 
-  pub past_onward : (found : Bool) (left' : ℕ) (places : List ℕ) → found ≡ false →
-      Answer (trails_up_to last (k - 1) (rising os) (get_or os r 0) (pairs_of ps os rest)) (k - 1) left found left' places →
-      Onward top k (rising os) v (pairs_of ps os cs) skip left' (get_or os r 0 + 1)
-  past_onward found left' places f b =
+  pub past_onward : (less : ℕ) → length below + less ≡ left → Onward top k (rising os) v (pairs_of ps os cs) skip less (get_or os r 0 + 1)
+  past_onward less p =
       record {
-        so = λ found'' left'' places'' c. o.so found'' left'' places'' (rw parts (subst (λ (n : ℕ). Answer (map (λ (xs : List ℕ). get_or os r 0 ∷ xs) (trails_up_to last (k - 1) (rising os) (get_or os r 0) (pairs_of ps os rest)) ++ trails_within (get_or os r 0 + 1) top (k - 1) (rising os) v (pairs_of ps os cs)) n left found'' left'' places'') more
-            (branch_past (get_or os r 0) (k - 1) left left' _ _ places (rw f at b) found'' left'' places'' (subst (λ (n : ℕ). Answer (trails_within (get_or os r 0 + 1) top (k - 1) (rising os) v (pairs_of ps os cs)) n left' found'' left'' places'') (sym more) c))));
+        found = λ places f. o.found places (rw parts (rest_found (get_or os r 0) k left less _ _ places p f));
+        past = λ fewer q. o.past fewer (rw parts (rest_past (get_or os r 0) left less fewer _ _ p q));
       }
 
--- The loop of the search: row i leads to the least id from some id `low` on, and so goes on.
-pub record Turning (ps os cs : List ℕ) (top k v skip left i : ℕ) : Type 0 where
+-- The loop of the search: the next row leads to the least id from some id `low` on, and so goes on.
+pub record Turning (ps os cs : List ℕ) (top k v skip left : ℕ) (next : Option ℕ) : Type 0 where
   pub low : ℕ
   pub onward : Onward top k (rising os) v (pairs_of ps os cs) skip left low
-  pub least : Least ps os cs v low top 32 i
+  pub least : Least ps os cs v low top 32 next
 
-pub turning_start : (ps os cs : List ℕ) (top k v skip i : ℕ) → (k ≡ 0 → ⊥) → Least ps os cs v 0 top 32 i → Turning ps os cs top k v skip skip i
-turning_start ps os cs top k v skip i z m = record { low = 0; onward = onward_start top (rising os) v (pairs_of ps os cs) k skip z; least = m }
+pub turning_start : (ps os cs : List ℕ) (top k v skip : ℕ) (next : Option ℕ) → (k ≡ 0 → ⊥) → Least ps os cs v 0 top 32 next → Turning ps os cs top k v skip skip next
+turning_start ps os cs top k v skip next z m = record { low = 0; onward = onward_start top (rising os) v (pairs_of ps os cs) k skip z; least = m }
 
--- How many ids there are from that of row i to top, which falls from turn to turn.
-unfoldable pub room : List ℕ → ℕ → ℕ → ℕ
-room os top i = cond (ltb i 32) (top + 1 - get_or os i 0) 0
+-- How many ids there are from that of the next row to top, which falls from turn to turn.
+unfoldable pub room : List ℕ → ℕ → Option ℕ → ℕ
+room os top None = 0
+room os top (Some r) = top + 1 - get_or os r 0
 
-pub room_less : (ps os cs : List ℕ) (v top i j : ℕ) → i < 32 → get_or os i 0 ≤ top → Least ps os cs v (get_or os i 0 + 1) top 32 j → room os top j < room os top i
+pub room_less : (ps os cs : List ℕ) (v top r : ℕ) (next then : Option ℕ) → next ≡ Some r → get_or os r 0 ≤ top → Least ps os cs v (get_or os r 0 + 1) top 32 then → room os top then < room os top next
 unfolding room
-room_less ps os cs v top i j h b m = rw (lt-ltb i 32 h) (choose (ltb j 32) refl)
-  where
-    choose : (t : Bool) → ltb j 32 ≡ t → cond t (top + 1 - get_or os j 0) 0 < top + 1 - get_or os i 0
-    choose true e = let l = m.row (ltb-true j 32 e) in let u = l.above in let w = l.below in omega arith
-    choose false e = omega arith
+room_less ps os cs v top r next None e b m = rw e (omega arith)
+room_less ps os cs v top r next (Some s) e b m = let u = m.row.1.above in let w = m.row.1.below in rw e (omega arith)

@@ -1,5 +1,5 @@
 -- What the parts of the search promise each other. No public contract cites these.
-use Rattle.std.specs.Prelude.{Bool, true, false, cond, ◌&&◌, List, [], ◌∷◌, ◌++◌, map, ◌≡◌, ℕ, zero, suc, ◌+◌, ◌-◌, ◌<◌, ◌≤◌, eqb, leb, length, get_or, take, drop, replicate}
+use Rattle.std.specs.Prelude.{Bool, cond, ◌&&◌, List, [], ◌∷◌, ◌++◌, map, ◌≡◌, ℕ, zero, suc, ◌+◌, ◌-◌, ◌/◌, ◌^◌, ◌<◌, ◌≤◌, eqb, leb, length, get_or, take, drop, replicate, bit_and, Option, IfSome, IsSomeAnd, Result, Ok, Err}
 use Rattle.trail.specs.Trails.{Multiset, branches, trails_from, pairs_from, tally, total}
 
 -- Those of a list that pass a test.
@@ -32,15 +32,10 @@ pub record Leads (previouses owns counts : List ℕ) (v low top j : ℕ) : Type 
   pub above : low ≤ get_or owns j 0
   pub below : get_or owns j 0 ≤ top
 
--- A test says whether P holds.
-pub record Decides (P : Type 0) (r : Bool) : Type 0 where
-  pub holds : r ≡ true → P
-  pub fails : r ≡ false → P → ⊥
-
--- Of the first n rows that lead on so, row r leads to the least id; r is not below 32 if there is none.
-pub record Least (previouses owns counts : List ℕ) (v low top n r : ℕ) : Type 0 where
-  pub row : r < 32 → Leads previouses owns counts v low top r
-  pub least : (j : ℕ) → j < n → Leads previouses owns counts v low top j → (r < 32) × (get_or owns r 0 ≤ get_or owns j 0)
+-- Of the first n rows that lead on so, the one that is found leads to the least id; there is none if none is found.
+pub record Least (previouses owns counts : List ℕ) (v low top n : ℕ) (found : Option ℕ) : Type 0 where
+  pub row : IfSome found (λ r. (r < 32) × Leads previouses owns counts v low top r)
+  pub least : (j : ℕ) → j < n → Leads previouses owns counts v low top j → IsSomeAnd found (λ r. get_or owns r 0 ≤ get_or owns j 0)
 
 -- Row r is the first from `from` on that leaves id; it is not below 32 if there is none.
 pub record Following (previouses : List ℕ) (id from r : ℕ) : Type 0 where
@@ -58,11 +53,6 @@ pub record Afters (previouses afters : List ℕ) (n : ℕ) : Type 0 where
   pub long : length afters ≡ 32
   pub each : (i : ℕ) → i < n → Following previouses (get_or previouses i 0) (i + 1) (get_or afters i 0)
 
--- Links lead to later rows.
-pub record Rise (afters : List ℕ) : Type 0 where
-  pub long : length afters ≡ 32
-  pub on : (i : ℕ) → i < 32 → i < get_or afters i 0
-
 -- The rows of a table are linked.
 pub record Linked (previouses owns firsts afters : List ℕ) : Type 0 where
   pub first : Firsts previouses owns firsts 32
@@ -73,33 +63,40 @@ unfoldable pub led : List ℕ → List ℕ → List ℕ
 led owns rows = map (λ (i : ℕ). get_or owns i 0) rows
 
 -- The search can start: the columns have 32 places, k pairs are unused, and k is at most 32.
-pub record Ready (previouses owns nexts counts : List ℕ) (k : ℕ) : Type 0 where
+pub record Ready (previouses owns counts : List ℕ) (k : ℕ) : Type 0 where
   pub columns : Columns previouses owns counts
-  pub next : length nexts ≡ 32
   pub size : total counts ≡ k
   pub few : k ≤ 32
 
--- A sequence of the search's list: with `skip` before it, or none there and `left` more to skip in what follows.
--- The k ids stand in the last k of 32 places.
-pub record Answer (list : List (List ℕ)) (k skip : ℕ) (found : Bool) (left : ℕ) (ids : List ℕ) : Type 0 where
-  pub got : found ≡ true → (skip < length list) × (drop (32 - k) ids ≡ get_or list skip [])
-  pub past : found ≡ false → length list + left ≡ skip
+-- The sequence of a list that `skip` come before is there: its k ids stand in the last k of 32 places.
+pub record Found (list : List (List ℕ)) (k skip : ℕ) (ids : List ℕ) : Type 0 where
+  pub there : skip < length list
+  pub same : drop (32 - k) ids ≡ get_or list skip []
+
+-- What a search of a list answers: the rows that lead to that sequence; or it is not there, and so many are still to be skipped in what follows.
+abbrev pub Answer : List (List ℕ) → ℕ → ℕ → List ℕ → Result (List ℕ) ℕ → Type 0
+Answer list k skip owns (Ok rows) = Found list k skip (led owns rows)
+Answer list k skip owns (Err left) = length list + left ≡ skip
+
+-- The bit of row j among the marks.
+abbrev pub mark : ℕ → ℕ → ℕ
+mark marks j = bit_and (marks / 2 ^ j) 1
 
 -- Row j is not used up and not marked.
-pub record Missed (counts marks : List ℕ) (j : ℕ) : Type 0 where
+pub record Missed (counts : List ℕ) (marks j : ℕ) : Type 0 where
   pub unused : 0 < get_or counts j 0
-  pub unmarked : get_or marks j 0 ≡ 0
+  pub unmarked : mark marks j ≡ 0
 
 -- None of the first n rows that leave id is missed.
-abbrev pub Clear : List ℕ → List ℕ → List ℕ → ℕ → ℕ → Type 0
+abbrev pub Clear : List ℕ → List ℕ → ℕ → ℕ → ℕ → Type 0
 Clear previouses counts marks id n = (j : ℕ) → j < n → j < 32 → Missed counts marks j → get_or previouses j 0 ≡ id → ⊥
 
 -- None of the first n rows that are marked and not used up leads to id.
-abbrev pub Away : List ℕ → List ℕ → List ℕ → ℕ → ℕ → Type 0
-Away owns counts marks id n = (i : ℕ) → i < n → 0 < get_or counts i 0 → (get_or marks i 0 ≡ 0 → ⊥) → get_or owns i 0 ≡ id → ⊥
+abbrev pub Away : List ℕ → List ℕ → ℕ → ℕ → ℕ → Type 0
+Away owns counts marks id n = (i : ℕ) → i < n → 0 < get_or counts i 0 → (mark marks i ≡ 0 → ⊥) → get_or owns i 0 ≡ id → ⊥
 
 -- Of the first n rows, no missed one leaves v or an id that a marked one leads to.
-abbrev pub Apart : List ℕ → List ℕ → List ℕ → List ℕ → ℕ → ℕ → Type 0
+abbrev pub Apart : List ℕ → List ℕ → List ℕ → ℕ → ℕ → ℕ → Type 0
 Apart previouses owns counts marks v n =
     (j : ℕ) → j < n → Missed counts marks j → (get_or previouses j 0 ≡ v → ⊥) × Away owns counts marks (get_or previouses j 0) 32
 

@@ -14,10 +14,17 @@ mod walk;
 ghost use Rattle.std.specs.Prelude.{◌≡◌};
 ghost use Rattle.trail.specs.Calls.{number_answer, unnumbered, order_answer, refusal};
 
-use rank::{chain, nonzero, rank};
+use links::link;
+use rank::{chain, rank};
 use single::only;
 use table::size;
 use walk::{find, front};
+
+// Numbering answers this for every greater number.
+const CAP: u64 = 4096;
+
+// From here on an answer accepts.
+const ACCEPTED: u64 = 0x1_0000_0000;
 
 // A multiset of pairs (previous id, own id) with counts, in rows: in any order, and rows of the same pair add up.
 // A row of count 0 holds nothing.
@@ -46,48 +53,33 @@ pub struct Trail {
 }
 
 // The answer of question 17's no to an order.
-fn leave_unnumbered() -> Numbered
-    ensures { result ≡ unnumbered }
-{
-    Numbered {
-        answer: 17,
-        only: false,
-    }
-}
+const UNNUMBERED: Numbered = Numbered {
+    answer: 17,
+    only: false,
+};
+
+// The answer of question 17's no to a multiset and a number.
+const REFUSAL: Trail = Trail {
+    answer: 17,
+    k: 0,
+    ids: [0; 32],
+    only: false,
+};
 
 // The number of an order: how many trails over its pairs come before it, 4,096 for every number above 4,095, and 2^32 more
 // to tell it from a refusal; or 17 unless there are 1 to 32 ids, none of them 0.
 pub fn number(ids: &[u64]) -> Numbered
     ensures { result ≡ number_answer ids.now }
 {
-    if ids.len() == 0 {
-        return leave_unnumbered();
+    if ids.len() == 0 || 32 < ids.len() || ids.contains(&0) {
+        return UNNUMBERED;
     }
-    if 32 < ids.len() {
-        return leave_unnumbered();
-    }
-    if nonzero(ids) {
-        let pairs = chain(ids);
-        let previous = pairs.previous;
-        let own = pairs.own;
-        let count = pairs.count;
-        let place = rank(&previous, &own, count, ids);
-        let only = only(&previous, &own, &count, ids.len());
-        let answer = 4294967296 + place;
-        return Numbered { answer, only };
-    }
-    leave_unnumbered()
-}
-
-// The answer of question 17's no to a multiset and a number.
-fn refuse() -> Trail
-    ensures { result ≡ refusal }
-{
-    Trail {
-        answer: 17,
-        k: 0,
-        ids: [0; 32],
-        only: false,
+    let pairs = chain(ids);
+    let table = link(&pairs.previous, &pairs.own);
+    let place = rank(&table, &pairs.count, ids);
+    Numbered {
+        answer: ACCEPTED + place,
+        only: only(&table, &pairs.count, ids.len()),
     }
 }
 
@@ -96,32 +88,19 @@ fn refuse() -> Trail
 pub fn order(pairs: Pairs, number: u64) -> Trail
     ensures { result ≡ order_answer pairs number }
 {
-    let previous = pairs.previous;
-    let own = pairs.own;
-    let count = pairs.count;
-    let k = size(&count);
-    if k == 0 {
-        return refuse();
+    let sum = size(&pairs.count);
+    if sum == 0 || 32 < sum || CAP <= number {
+        return REFUSAL;
     }
-    if 32 < k {
-        return refuse();
+    let k = sum as usize;
+    let table = link(&pairs.previous, &pairs.own);
+    match find(&table, &pairs.count, k, number) {
+        Ok(rows) => Trail {
+            answer: ACCEPTED + sum,
+            k,
+            ids: front(&table.own, &rows, k),
+            only: only(&table, &pairs.count, k),
+        },
+        Err(_) => REFUSAL,
     }
-    if 4095 < number {
-        return refuse();
-    }
-    let places = k as usize;
-    let outcome = find(&previous, &own, &count, places, number);
-    if outcome.found {
-        let rows = outcome.rows;
-        let ids = front(&own, rows, places);
-        let only = only(&previous, &own, &count, places);
-        let answer = 4294967296 + k;
-        return Trail {
-            answer,
-            k: places,
-            ids,
-            only,
-        };
-    }
-    refuse()
 }

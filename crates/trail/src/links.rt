@@ -1,46 +1,60 @@
 // Rows that leave the same id, linked: the search looks at those that leave its id and passes over all others.
-ghost use Rattle.std.specs.Prelude.{◌≡◌, length};
-ghost use Rattle.trail.specs.Search.{Following, Firsts, Afters};
+ghost use Rattle.std.specs.Prelude.{◌≡◌, ℕ, ◌^◌, ◌<◌, ◌≤◌, slice_index};
+ghost use Rattle.trail.specs.Search.{Following, Linked};
 
-// The first row from `from` on that leaves the id; 32 or more if there is none.
-pub fn leaving(previous: &[u64], id: u64, from: usize) -> usize
-    requires { length previous.now ≡ 32 }
+use crate::reach::rows_where;
+
+// The columns of a multiset of pairs, and which rows can follow which.
+#[derive(Drop)]
+pub struct Table {
+    pub previous: [u64; 32],
+    pub own: [u64; 32],
+
+    // For each row, the rows that can follow it, a bit for each.
+    pub next: [u64; 32],
+
+    // For each row, the first one that can follow it; 32 if there is none.
+    pub first: [usize; 32],
+
+    // For each row, the next one that leaves the same id; 32 if there is none.
+    pub after: [usize; 32],
+    ghost linked: { Linked previous own first after },
+
+    // What the type says of each id, for the proof of the search, which goes over all of them.
+    ghost bounded: { (row : ℕ) → slice_index own row < 2 ^ 64 },
+}
+
+// The first row from `from` on that leaves the id; 32 if there is none.
+pub fn leaving(previous: &[u64; 32], id: u64, from: usize) -> usize
+    requires { from ≤ 32 }
     ensures { Following previous.now id from result }
 {
-    let mut i = from;
-    while i < 32 {
-        if previous[i] == id {
-            return i;
+    for row in from..32 {
+        if previous[row] == id {
+            return row;
         }
-        i += 1;
     }
-    i
+    32
 }
 
-// For each row, the first one that can follow it.
-pub fn firsts(previous: &[u64], own: &[u64]) -> [usize; 32]
-    requires { (length previous.now ≡ 32) × (length own.now ≡ 32) }
-    ensures { Firsts previous.now own.now result 32 }
+// The rows of these columns, linked.
+pub fn link(previous: &[u64; 32], own: &[u64; 32]) -> Table
+    ensures { (result.previous ≡ previous.now) × (result.own ≡ own.now) }
 {
+    let mut next = [0; 32];
     let mut first = [32; 32];
-    let mut i = 0;
-    while i < 32 {
-        first[i] = leaving(previous, own[i], 0);
-        i += 1;
-    }
-    first
-}
-
-// For each row, the next one that leaves the same id.
-pub fn afters(previous: &[u64]) -> [usize; 32]
-    requires { length previous.now ≡ 32 }
-    ensures { Afters previous.now result 32 }
-{
     let mut after = [32; 32];
-    let mut i = 0;
-    while i < 32 {
-        after[i] = leaving(previous, previous[i], i + 1);
-        i += 1;
+    for row in 0..32 {
+        let id = own[row];
+        next[row] = rows_where(previous, |other| *other == id);
+        first[row] = leaving(previous, id, 0);
+        after[row] = leaving(previous, previous[row], row + 1);
     }
-    after
+    Table {
+        previous: *previous,
+        own: *own,
+        next,
+        first,
+        after,
+    }
 }

@@ -1,28 +1,12 @@
 // The number of an order: step by step, the trails that start with a smaller id.
 ghost use Rattle.std.specs.Prelude.{◌≡◌, ◌≤◌, length};
 ghost use Rattle.trail.specs.Trails.{trail_number};
-ghost use Rattle.trail.specs.Calls.{nonzero};
 ghost use Rattle.trail.specs.Search.{Chained, Numberable};
 
-use crate::Pairs;
-use crate::links::{afters, firsts, leaving};
-use crate::reach::followers;
+use crate::links::{Table, leaving};
 use crate::table::narrow;
 use crate::walk::search;
-
-// Whether all ids are nonzero.
-pub fn nonzero(ids: &[u64]) -> bool
-    ensures { result ≡ nonzero ids.now }
-{
-    let mut i = 0;
-    while i < ids.len() {
-        if ids[i] == 0 {
-            return false;
-        }
-        i += 1;
-    }
-    true
-}
+use crate::{CAP, Pairs};
 
 // The pairs of an order, starting from 0, in their order.
 pub fn chain(ids: &[u64]) -> Pairs
@@ -32,15 +16,12 @@ pub fn chain(ids: &[u64]) -> Pairs
     let mut previous = [0; 32];
     let mut own = [0; 32];
     let mut count = [0; 32];
-    let mut v = 0;
-    let mut i = 0;
-    while i < ids.len() {
-        let x = ids[i];
-        previous[i] = v;
-        own[i] = x;
+    let mut last = 0;
+    for (i, id) in ids.iter().enumerate() {
+        previous[i] = last;
+        own[i] = *id;
         count[i] = 1;
-        v = x;
-        i += 1;
+        last = *id;
     }
     Pairs {
         previous,
@@ -50,41 +31,30 @@ pub fn chain(ids: &[u64]) -> Pairs
 }
 
 // How many trails over the pairs of these ids come before them, at most 4,096. `skip` is how many more would make it that.
-pub fn rank(previous: &[u64], own: &[u64], count: [u64; 32], ids: &[u64]) -> u64
-    requires { Numberable ids.now previous.now own.now count }
+pub fn rank(table: &Table, counts: &[u64; 32], ids: &[u64]) -> u64
+    requires { Numberable ids.now table.now.previous table.now.own counts.now }
     ensures { result ≡ trail_number ids.now }
 {
-    let next = followers(previous, own);
-    let first = firsts(previous, own);
-    let after = afters(previous);
-    let mut unused = narrow(&count);
-    let mut v = 0;
-    let mut skip = 4096;
-    let mut i = 0;
-    while i < ids.len() {
-        let x = ids[i];
-        let from = leaving(previous, v, 0);
-        let before = search(
-            previous,
-            own,
-            &next,
-            &first,
-            &after,
+    let mut unused = narrow(counts);
+    let mut last = 0;
+    let mut skip = CAP;
+    for (i, id) in ids.iter().enumerate() {
+        let from = leaving(&table.previous, last, 0);
+        match search(
+            table,
             unused,
-            v,
+            last,
             from,
-            x - 1,
+            *id - 1,
             ids.len() - i,
             skip,
             false,
-        );
-        if before.found {
-            return 4096;
+        ) {
+            Ok(_) => return CAP,
+            Err(left) => skip = left,
         }
-        skip = before.left;
         unused[i] = 0;
-        v = x;
-        i += 1;
+        last = *id;
     }
-    4096 - skip
+    CAP - skip
 }

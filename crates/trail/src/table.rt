@@ -1,61 +1,44 @@
 // Tables of pairs: how many pairs they hold, and whether each id is left at most as often as it is entered.
-ghost use Rattle.std.specs.Prelude.{◌≡◌, false, min, ◌≤◌, eqb, length};
+ghost use Rattle.std.specs.Prelude.{◌≡◌, false, min, ◌≤◌, eqb};
 ghost use Rattle.trail.specs.Trails.{tally, total};
-ghost use Rattle.trail.specs.Search.{Columns, Unbalanced};
+ghost use Rattle.trail.specs.Search.{Unbalanced};
+
+use crate::links::Table;
 
 // The sum of the counts, or 33 if it is more than 32.
-pub fn size(counts: &[u64]) -> u64
+pub fn size(counts: &[u64; 32]) -> u64
     ensures { result ≡ min 33 (total counts.now) }
 {
-    let mut sum = 0;
-    let mut i = 0;
-    while i < counts.len() {
-        let count = counts[i];
-        if 32 < count {
-            return 33;
-        }
-        sum += count;
-        if 32 < sum {
-            return 33;
-        }
-        i += 1;
+    let mut sum = 0u64;
+    for count in counts {
+        sum = sum.saturating_add(*count);
     }
-    sum
+    sum.min(33)
 }
 
 // How many pairs have the id in this column.
-fn held(column: &[u64], counts: &[u64], id: u64) -> u64
-    requires { (length column.now ≡ 32) × (length counts.now ≡ 32) × (total counts.now ≤ 32) }
+fn held(column: &[u64; 32], counts: &[u64; 32], id: u64) -> u64
+    requires { total counts.now ≤ 32 }
     ensures { result ≡ tally (λ p o. eqb p id) column.now column.now counts.now }
 {
     let mut sum = 0;
-    let mut i = 0;
-    while i < 32 {
-        let at = i;
-        i += 1;
-        if column[at] == id {
-            sum += counts[at];
+    for (row, other) in column.iter().enumerate() {
+        if *other == id {
+            sum += counts[row];
         }
     }
     sum
 }
 
 // Whether no id is left more often than it is entered, 0 once more: a trail starts there.
-pub fn balanced(previous: &[u64], own: &[u64], counts: &[u64]) -> bool
-    requires { Columns previous.now own.now counts.now × (total counts.now ≤ 32) }
-    ensures { result ≡ false → Unbalanced previous.now own.now counts.now }
+pub fn balanced(table: &Table, counts: &[u64; 32]) -> bool
+    requires { total counts.now ≤ 32 }
+    ensures { result ≡ false → Unbalanced table.now.previous table.now.own counts.now }
 {
-    let mut i = 0;
-    while i < 32 {
-        let id = previous[i];
-        i += 1;
-        let leaving = held(previous, counts, id);
-        let entering = held(own, counts, id);
-        if id == 0 {
-            if entering + 1 < leaving {
-                return false;
-            }
-        } else if entering < leaving {
+    for id in &table.previous {
+        let leaving = held(&table.previous, counts, *id);
+        let entering = held(&table.own, counts, *id);
+        if entering + u64::from(*id == 0) < leaving {
             return false;
         }
     }
@@ -63,15 +46,13 @@ pub fn balanced(previous: &[u64], own: &[u64], counts: &[u64]) -> bool
 }
 
 // The counts as bytes: what the search copies at every step is then short.
-pub fn narrow(counts: &[u64]) -> [u8; 32]
-    requires { (length counts.now ≡ 32) × (total counts.now ≤ 32) }
+pub fn narrow(counts: &[u64; 32]) -> [u8; 32]
+    requires { total counts.now ≤ 32 }
     ensures { result ≡ counts.now }
 {
     let mut bytes = [0u8; 32];
-    let mut i = 0;
-    while i < 32 {
-        bytes[i] = counts[i] as u8;
-        i += 1;
+    for (row, count) in counts.iter().enumerate() {
+        bytes[row] = *count as u8;
     }
     bytes
 }

@@ -1,43 +1,33 @@
 -- Numbering asks its three questions, counts over the table of the order's own pairs, and asks of the same table whether it has one trail.
-use mathlib.Core.Bool.{true≢false}
-use mathlib.Core.Path.{sym, ap, ◌∙◌}
-use Prim.Native.Nat.{ℕ, ◌+◌}
-use native.Mathlib.Omega.{arith}
+use Rattle.std.proofs.Common.{◌≡◌, Bool, true, false, not, arith, refl, sym, ap, ◌∙◌, ℕ, ◌+◌}
 use Rattle.trail.specs.Search.{Numberable}
-use Rattle.trail.proofs.Answers.{nonzero_at, number_refused, number_small, number_taken}
+use Rattle.trail.proofs.Answers.{nonzero_unless, order_numberable, number_refused, number_small, number_taken}
 use Rattle.trail.proofs.Only.{own_number, own_only}
-use Rattle.trail.proofs.Ranking.{columns, total_first}
+use Rattle.trail.proofs.Ranking.{total_first}
 use Rattle.trail.proofs.number.Goals as goal
+use Rattle.trail.proofs.number.Goals.{then-ids-eq0-via-then-ids-eq0, then-ids-eq0-via-else-ids-eq0+then-ids-gt32, then-ids-eq0-via-else-ids-eq0+else-ids-gt32+then-contains}
 
 pub returns-then-ids-eq0 : goal.returns-then-ids-eq0
-returns-then-ids-eq0 c = number_refused _ _ c.leave_unnumbered.ensures (λ p q s. omega (arith, c.if-ids-eq0.true))
-
-pub returns-then-ids-gt32 : goal.returns-then-ids-gt32
-returns-then-ids-gt32 c = number_refused _ _ c.leave_unnumbered-then-ids-gt32.ensures (λ p q s. omega (arith, c.if-ids-gt32.true))
-
-pub chain-pairs-requires : goal.chain-pairs-requires
-chain-pairs-requires c = c.if-ids-gt32.false
+returns-then-ids-eq0 c = number_refused _ _ refl (λ p q s. elim c.then-ids-eq0.branch [
+  | then-ids-eq0-via-then-ids-eq0 w ↦ omega (arith, w.if-ids-eq0.true)
+  | then-ids-eq0-via-else-ids-eq0+then-ids-gt32 w ↦ omega (arith, w.if-ids-gt32.true)
+  | then-ids-eq0-via-else-ids-eq0+else-ids-gt32+then-contains w ↦ let z : ◌≡◌ {A = Bool} true false = sym s ∙ nonzero_unless _ w.contains.ensures.value ∙ ap not w.if-contains.true in cc
+])
 
 pub rank-place-requires : goal.rank-place-requires
-rank-place-requires c =
-    record { few = c.if-ids-gt32.false; nonzero = nonzero_at _ (sym c.nonzero.ensures ∙ c.if-nonzero.true); table = c.chain-pairs.ensures }
+rank-place-requires c = order_numberable c.if-ids-gt32.false c.contains.ensures.value c.if-contains.false c.chain-pairs.ensures c.link-table.ensures
 
-pub only-only-requires : goal.only-only-requires
-only-only-requires c =
-    let n : Numberable c.args.ids.now c.chain-pairs.result.previous c.chain-pairs.result.own c.chain-pairs.result.count =
-    record { few = c.if-ids-gt32.false; nonzero = nonzero_at _ (sym c.nonzero.ensures ∙ c.if-nonzero.true); table = c.chain-pairs.ensures } in
-    (columns _ _ _ _ n, total_first _ _ _ _ n, n.few, omega (arith, own_number n))
+pub overflow_add-result : goal.overflow_add-result
+overflow_add-result c = omega (arith, c.rank-place.ensures, number_small c.args.ids.now)
 
-pub overflow_add-answer : goal.overflow_add-answer
-overflow_add-answer c = omega (arith, c.rank-place.ensures, number_small c.args.ids.now)
-
-pub returns-then-nonzero : goal.returns-then-nonzero
-returns-then-nonzero c =
-    let n : Numberable c.args.ids.now c.chain-pairs.result.previous c.chain-pairs.result.own c.chain-pairs.result.count =
-    record { few = c.if-ids-gt32.false; nonzero = nonzero_at _ (sym c.nonzero.ensures ∙ c.if-nonzero.true); table = c.chain-pairs.ensures } in
-    number_taken _ _ (omega (arith, c.if-ids-eq0.false)) (omega (arith, c.if-ids-gt32.false))
-    (sym c.nonzero.ensures ∙ c.if-nonzero.true)
-    (ap (λ (m : ℕ). 4294967296 + m) c.rank-place.ensures) (c.only-only.ensures ∙ sym (own_only n))
+pub only-requires : goal.only-requires
+only-requires c =
+    let n : Numberable c.args.ids.now c.link-table.result.previous c.link-table.result.own c.chain-pairs.result.count = order_numberable c.if-ids-gt32.false c.contains.ensures.value c.if-contains.false c.chain-pairs.ensures c.link-table.ensures in
+    record { size = total_first _ _ _ _ n; few = n.few; there = omega (arith, own_number n) }
 
 pub returns : goal.returns
-returns c = number_refused _ _ c.leave_unnumbered-2.ensures (λ p q s. true≢false (sym s ∙ sym c.nonzero.ensures ∙ c.if-nonzero.false))
+returns c =
+    let n : Numberable c.args.ids.now c.link-table.result.previous c.link-table.result.own c.chain-pairs.result.count = order_numberable c.if-ids-gt32.false c.contains.ensures.value c.if-contains.false c.chain-pairs.ensures c.link-table.ensures in
+    number_taken _ _ (omega (arith, c.if-ids-eq0.false)) (omega (arith, c.if-ids-gt32.false))
+    (nonzero_unless _ c.contains.ensures.value ∙ ap not c.if-contains.false)
+    (ap (λ (m : ℕ). 4294967296 + m) c.rank-place.ensures) (c.only.ensures ∙ sym (own_only n))

@@ -1,16 +1,11 @@
-use borrow.Author.Count.{below_more}
-use native.Mathlib.Omega.{arith}
-use Prim.Native.Nat.{◌-◌}
+use Rattle.std.proofs.Common.{arith, below_more}
 use Rattle.trail.proofs.links.leaving.Goals as goal
 
-pub loop-i-init : goal.loop-i-init
-loop-i-init c = (omega arith, λ j h g. absurd (omega arith))
+pub returns-then-previous-row : goal.returns-then-previous-row
+returns-then-previous-row c = record { on = omega arith; here = λ h. c.if-previous-row.true; none = c.loop-row.invariant }
 
-pub returns-then-previous-i : goal.returns-then-previous-i
-returns-then-previous-i c = record { on = c.loop-i.invariant.0; here = λ h. c.if-previous-i.true; none = c.loop-i.invariant.1 }
-
-pub loop-i-preserved : goal.loop-i-preserved
-loop-i-preserved c = (omega arith, below_more _ _ c.loop-i.invariant.1 (λ g h e. c.if-previous-i.false e))
+pub loop-row-preserved : goal.loop-row-preserved
+loop-row-preserved c = below_more _ _ c.loop-row.invariant (λ g h e. c.if-previous-row.false e)
 
 pub returns : goal.returns
-returns c = record { on = c.loop-i.invariant.0; here = λ h. absurd (omega arith); none = c.loop-i.invariant.1 }
+returns c = record { on = c.requires; here = λ h. absurd (omega arith); none = λ j h. c.loop-row.invariant j (omega arith) }

@@ -1,13 +1,8 @@
 use Rattle.trail.proofs.Fill.{chain_start, chain_next, chain_end}
-use native.Mathlib.Omega.{arith}
-use Prim.Native.Nat.{◌-◌}
 use Rattle.trail.proofs.rank.chain.Goals as goal
 
 pub loop-i-init : goal.loop-i-init
 loop-i-init c = chain_start c.args.ids.now
-
-pub bounds-previous-i : goal.bounds-previous-i
-bounds-previous-i c = omega (arith, c.loop-i.invariant.bound, c.requires)
 
 pub loop-i-preserved : goal.loop-i-preserved
 loop-i-preserved c = chain_next c.requires c.loop-i-test.true c.loop-i.invariant

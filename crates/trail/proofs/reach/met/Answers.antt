@@ -1,35 +1,22 @@
-use mathlib.Core.Bool.{true≢false}
-use native.Mathlib.Omega.{arith}
-use Prim.Native.Nat.{◌-◌}
+use Rattle.std.proofs.Common.{arith}
+use Rattle.trail.specs.Search.{Missed}
 use Rattle.trail.proofs.Linking.{clear_link}
 use Rattle.trail.proofs.reach.met.Goals as goal
+use Rattle.trail.proofs.reach.met.Goals.{else-counts-at-gt0-via-then-counts-at-gt0+else-marked-at-eq0, else-counts-at-gt0-via-else-counts-at-gt0}
 
-pub loop-i-init : goal.loop-i-init
-loop-i-init c = λ ps id a f. (λ j g h m e. f.none j g (omega arith) h e, f.here)
+pub loop-row-init : goal.loop-row-init
+loop-row-init c = λ id f. (λ j g h m e. f.none j g (omega arith) h e, f.here)
 
-pub bounds-after-at : goal.bounds-after-at
-bounds-after-at c = omega (arith, c.requires.0.long)
+pub loop-row-smaller : goal.loop-row-smaller
+loop-row-smaller c = omega (arith, (c.args.table.now.linked.after.each c.loop-row.row c.loop-row-test.true).on)
 
-pub bounds-counts-at : goal.bounds-counts-at
-bounds-counts-at c = omega (arith, c.requires.1)
-
-pub bounds-marks-at : goal.bounds-marks-at
-bounds-marks-at c = omega (arith, c.requires.2)
-
-pub returns-then-marks-at-eq0 : goal.returns-then-marks-at-eq0
-returns-then-marks-at-eq0 c = λ e. absurd (true≢false e)
-
-pub loop-i-smaller-else-marks-at-eq0 : goal.loop-i-smaller-else-marks-at-eq0
-loop-i-smaller-else-marks-at-eq0 c = omega (arith, c.requires.0.on c.loop-i.i c.loop-i-test.true)
-
-pub loop-i-preserved-else-marks-at-eq0 : goal.loop-i-preserved-else-marks-at-eq0
-loop-i-preserved-else-marks-at-eq0 c = λ ps id a f. clear_link _ _ _ _ _ _ c.loop-i-test.true a (λ m. c.if-marks-at-eq0.false m.unmarked) (c.loop-i.invariant ps id a f)
-
-pub loop-i-smaller : goal.loop-i-smaller
-loop-i-smaller c = omega (arith, c.requires.0.on c.loop-i.i c.loop-i-test.true)
-
-pub loop-i-preserved : goal.loop-i-preserved
-loop-i-preserved c = λ ps id a f. clear_link _ _ _ _ _ _ c.loop-i-test.true a (λ m. absurd (omega arith)) (c.loop-i.invariant ps id a f)
+pub loop-row-preserved : goal.loop-row-preserved
+loop-row-preserved c =
+    let kept : Missed c.args.counts.now c.args.marked c.loop-row.row → ⊥ = λ m. elim c.else-counts-at-gt0.branch [
+      | else-counts-at-gt0-via-then-counts-at-gt0+else-marked-at-eq0 w ↦ w.if-marked-at-eq0.false m.unmarked
+      | else-counts-at-gt0-via-else-counts-at-gt0 w ↦ omega (arith, m.unused, w.if-counts-at-gt0.false)
+    ] in
+    λ id f. clear_link _ _ _ _ _ _ c.loop-row-test.true c.args.table.now.linked.after kept (c.loop-row.invariant id f)
 
 pub returns : goal.returns
-returns c = λ e ps id a f j h l m q. (c.loop-i.invariant ps id a f).0 j (omega arith) l m q
+returns c = λ e id f j h l m q. (c.loop-row.invariant id f).0 j (omega arith) l m q

@@ -1,13 +1,10 @@
 -- None of the linked rows passed is missed, and so none of the rows passed that leave their id (`Clear`).
-use lib.ListN.{get_or}
-use mathlib.Core.List.{List}
-use mathlib.Core.Path.{◌≡◌}
-use Prim.Native.Nat.{ℕ, ◌<◌, ◌-◌}
-use Rattle.trail.specs.Search.{Following, Afters, Clear}
+use Rattle.std.proofs.Common.{◌≡◌, ℕ, ◌<◌, ◌-◌, get_or}
+use Rattle.trail.specs.Search.{Following, Clear}
 use Rattle.trail.proofs.reach.met.Given as goal
 
-abbrev pub invariant-loop-i : goal.invariant-loop-i
-invariant-loop-i l = (ps : List ℕ) (id : ℕ) → Afters ps l.after 32 → Following ps id 0 l.from → Clear ps l.counts l.marks id l.i × (l.i < 32 → get_or ps l.i 0 ≡ id)
+abbrev pub invariant-loop-row : goal.invariant-loop-row
+invariant-loop-row l = (id : ℕ) → Following l.table.previous id 0 l.from → Clear l.table.previous l.counts l.marked id l.row × (l.row < 32 → get_or l.table.previous l.row 0 ≡ id)
 
-abbrev pub decreases-loop-i : goal.decreases-loop-i
-decreases-loop-i l = 32 - l.i
+abbrev pub decreases-loop-row : goal.decreases-loop-row
+decreases-loop-row l = 32 - l.row

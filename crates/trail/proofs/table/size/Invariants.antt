@@ -1,12 +1,7 @@
--- The sum so far and the counts ahead make the whole total; past 32 the rest can only add.
-use Prim.Native.Nat.{◌≤◌, ◌-◌, ◌+◌}
-use mathlib.Core.Path.{◌≡◌}
-use lib.ListN.{length, drop}
+-- The sum so far and the counts ahead make the whole total, as far as 33.
+use Rattle.std.proofs.Common.{◌≡◌, ◌+◌, min, drop}
 use Rattle.trail.specs.Trails.{total}
 use Rattle.trail.proofs.table.size.Given as goal
 
-abbrev pub invariant-loop-i : goal.invariant-loop-i
-invariant-loop-i l = (l.i ≤ length l.counts) × (l.sum ≤ 32) × (l.sum + total (drop l.i l.counts) ≡ total l.counts)
-
-abbrev pub decreases-loop-i : goal.decreases-loop-i
-decreases-loop-i l = length l.counts - l.i
+abbrev pub invariant-loop-count : goal.invariant-loop-count
+invariant-loop-count l = min 33 (l.sum + total (drop l.count-index l.counts)) ≡ min 33 (total l.counts)

@@ -1,32 +1,27 @@
-use native.Mathlib.Omega.{arith}
-use Prim.Native.Nat.{◌-◌}
+use Rattle.std.proofs.Common.{arith}
 use Rattle.trail.proofs.Scan.{scan_pass, scan_fail, scan_done}
 use Rattle.trail.proofs.Linking.{scan_from, scan_link}
 use Rattle.trail.proofs.walk.least.Goals as goal
+use Rattle.trail.proofs.walk.least.Goals.{else-counts-at-gt0-via-then-counts-at-gt0+then-low-id+else-id-limit, else-counts-at-gt0-via-then-counts-at-gt0+else-low-id, else-counts-at-gt0-via-else-counts-at-gt0}
 
-pub loop-i-init : goal.loop-i-init
-loop-i-init c = scan_from _ c.requires.2
+pub loop-row-init : goal.loop-row-init
+loop-row-init c = scan_from _ c.requires
 
-pub bounds-after-at : goal.bounds-after-at
-bounds-after-at c = omega (arith, c.requires.1.long)
+pub loop-row-smaller : goal.loop-row-smaller
+loop-row-smaller c = omega (arith, (c.args.table.now.linked.after.each c.loop-row.row c.loop-row-test.true).on)
 
-pub leads-requires : goal.leads-requires
-leads-requires c = (c.requires.0, c.loop-i-test.true)
+pub loop-row-preserved : goal.loop-row-preserved
+loop-row-preserved c =
+    scan_link _ _ c.loop-row-test.true c.args.table.now.linked.after (c.loop-row.invariant.1 c.loop-row-test.true) (scan_fail c.loop-row.invariant.0 (λ l. elim c.else-counts-at-gt0.branch [
+      | else-counts-at-gt0-via-then-counts-at-gt0+then-low-id+else-id-limit w ↦ let u = l.below in omega arith
+      | else-counts-at-gt0-via-then-counts-at-gt0+else-low-id w ↦ let u = l.above in omega arith
+      | else-counts-at-gt0-via-else-counts-at-gt0 w ↦ let u = l.unused in omega arith
+    ]))
 
-pub bounds-own-at : goal.bounds-own-at
-bounds-own-at c = omega (arith, c.requires.0.own)
-
-pub loop-i-smaller-then-leads : goal.loop-i-smaller-then-leads
-loop-i-smaller-then-leads c = omega (arith, (c.requires.1.each c.loop-i.i c.loop-i-test.true).on)
-
-pub loop-i-preserved-then-leads : goal.loop-i-preserved-then-leads
-loop-i-preserved-then-leads c = scan_link _ _ c.loop-i-test.true c.requires.1 (c.loop-i.invariant.1 c.loop-i-test.true) (scan_pass c.loop-i-test.true c.loop-i.invariant.0 (c.leads.ensures.holds c.if-leads.true))
-
-pub loop-i-smaller : goal.loop-i-smaller
-loop-i-smaller c = omega (arith, (c.requires.1.each c.loop-i.i c.loop-i-test.true).on)
-
-pub loop-i-preserved : goal.loop-i-preserved
-loop-i-preserved c = scan_link _ _ c.loop-i-test.true c.requires.1 (c.loop-i.invariant.1 c.loop-i-test.true) (scan_fail c.loop-i.invariant.0 (λ l. c.leads.ensures.fails c.if-leads.false l))
+pub loop-row-preserved-then-id-limit : goal.loop-row-preserved-then-id-limit
+loop-row-preserved-then-id-limit c =
+    scan_link _ _ c.loop-row-test.true c.args.table.now.linked.after (c.loop-row.invariant.1 c.loop-row-test.true) (scan_pass c.loop-row-test.true c.loop-row.invariant.0
+    (record { leaves = c.loop-row.invariant.1 c.loop-row-test.true; unused = c.if-counts-at-gt0.true; above = c.if-low-id.true; below = c.if-id-limit.true }))
 
 pub returns : goal.returns
-returns c = scan_done (omega arith) c.loop-i.invariant.0
+returns c = scan_done _ (omega arith) c.loop-row.invariant.0

@@ -1,12 +1,10 @@
 -- The best row so far and its id, or none and top (`Scanned`), one row that leaves v further each turn.
-use lib.ListN.{get_or}
-use mathlib.Core.Path.{◌≡◌}
-use Prim.Native.Nat.{◌<◌, ◌-◌}
+use Rattle.std.proofs.Common.{◌≡◌, ◌<◌, ◌-◌, get_or}
 use Rattle.trail.proofs.Scan.{Scanned}
 use Rattle.trail.proofs.walk.least.Given as goal
 
-abbrev pub invariant-loop-i : goal.invariant-loop-i
-invariant-loop-i l = Scanned l.previous l.own l.counts l.v l.low l.top l.i l.best l.limit × (l.i < 32 → get_or l.previous l.i 0 ≡ l.v)
+abbrev pub invariant-loop-row : goal.invariant-loop-row
+invariant-loop-row l = Scanned l.table.previous l.table.own l.counts l.v l.low l.top l.row l.best l.limit × (l.row < 32 → get_or l.table.previous l.row 0 ≡ l.v)
 
-abbrev pub decreases-loop-i : goal.decreases-loop-i
-decreases-loop-i l = 32 - l.i
+abbrev pub decreases-loop-row : goal.decreases-loop-row
+decreases-loop-row l = 32 - l.row
