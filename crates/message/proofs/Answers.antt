@@ -1,18 +1,12 @@
 -- Laws of the reader's answers: for each way that reading a message can go, what it answers is what `parse` says.
-use mathlib.Core.Bool.{Bool, true, false, cond, ◌&&◌}
-use mathlib.Core.List.{List}
-use mathlib.Core.Option.{none, some}
-use mathlib.Core.Path.{◌≡◌, refl, sym, ap, ◌∙◌}
-use Prim.Native.Nat.{ℕ, ◌+◌, ◌*◌, ◌-◌, ◌/◌, ◌%◌, ◌^◌, ◌<◌}
-use native.Mathlib.Omega.{arith}
-use borrow.Author.Tests.{eq-eqb, ne_eqb}
-use lib.ListN.{length, get_or, drop}
-use Rattle.message.specs.Words.{link_words, kind_of, rest_of, plain, head_word, is_end_word}
+use Rattle.std.proofs.Common.{Bool, true, false, cond, ◌&&◌, List, ◌≡◌, refl, sym, ap, ◌∙◌, ℕ, ◌+◌, ◌*◌, ◌-◌, ◌/◌, ◌%◌, ◌^◌, ◌<◌, arith, eq-eqb, ne_eqb, length, get_or, drop, eqb}
+use Rattle.std.proofs.Math.Option.{none, some}
+use Rattle.message.specs.Words.{link_words, kind_of, rest_of, plain, head_word}
 use Rattle.message.specs.Fields.{read, one, number, value, values_are}
 use Rattle.message.specs.Messages.{type_of, cell_values, body_of, parse_words, parse}
 use Rattle.message.specs.declared.Message.{Message}
 use Rattle.message.specs.declared.Message.TheVariants.{Bad, OpeningQuery, NodeQuery, Opening, Composition, Literal, NoNode}
-use Rattle.message.specs.Reading.{references_at, meant, Placed, Counted, Reads, ReadsBody, numbers_are, References, Texts, pair_is, opening_by_places, number_of, type_answer}
+use Rattle.message.specs.Reading.{references_at, meant, Placed, Counted, Reads, ReadsBody, numbers_are, Falls, References, Texts, pair_is, PairRead, ends_at, opening_by_places, number_of, type_answer}
 use Rattle.message.proofs.Words.{rest_below}
 use Rattle.message.proofs.Reading.{opening_query_form, node_query_form, no_node_form, literal_form, composed, references_end, composition_form, opening_form}
 
@@ -20,19 +14,16 @@ module _ (s : List ℕ) (n : ℕ) where
   pub bad : (t : ℕ) → body_of (length (link_words s)) n t (drop 1 (link_words s)) ≡ none → ReadsBody s n t Bad
   bad t e = record { message = sym e; placed = tt; counted = tt }
 
-  abbrev ends_at : ℕ → Bool
-  ends_at k = is_end_word (length (link_words s)) (drop k (link_words s))
-
-  pub opening_query_no_end : ends_at 1 ≡ false → ReadsBody s n 1 Bad
+  pub opening_query_no_end : ends_at (link_words s) 1 ≡ false → ReadsBody s n 1 Bad
   opening_query_no_end e = bad 1 (opening_query_form (link_words s) (length (link_words s)) n ∙ rw e)
 
-  pub opening_query_read : ends_at 1 ≡ true → ReadsBody s n 1 (OpeningQuery n)
+  pub opening_query_read : ends_at (link_words s) 1 ≡ true → ReadsBody s n 1 (OpeningQuery n)
   opening_query_read e = record { message = sym (opening_query_form (link_words s) (length (link_words s)) n ∙ rw e); placed = tt; counted = tt }
 
-  pub node_query_no_pair : pair_is (link_words s) ≡ false → ReadsBody s n 2 Bad
+  pub node_query_no_pair : (pair_is (link_words s) && ends_at (link_words s) 5) ≡ false → ReadsBody s n 2 Bad
   node_query_no_pair p = bad 2 (node_query_form (link_words s) (length (link_words s)) n ∙ rw p)
 
-  pub no_node_no_pair : pair_is (link_words s) ≡ false → ReadsBody s n 6 Bad
+  pub no_node_no_pair : (pair_is (link_words s) && ends_at (link_words s) 5) ≡ false → ReadsBody s n 6 Bad
   no_node_no_pair p = bad 6 (no_node_form (link_words s) (length (link_words s)) n ∙ rw p)
 
   pub literal_no_pair : pair_is (link_words s) ≡ false → ReadsBody s n 5 Bad
@@ -41,52 +32,50 @@ module _ (s : List ℕ) (n : ℕ) where
   pub composition_no_pair : pair_is (link_words s) ≡ false → ReadsBody s n 4 Bad
   composition_no_pair p = bad 4 (composition_form (link_words s) (length (link_words s)) n ∙ rw p)
 
-  module _ (p : pair_is (link_words s) ≡ true) where
-    pub node_query_no_end : ends_at 5 ≡ false → ReadsBody s n 2 Bad
-    node_query_no_end e = bad 2 (node_query_form (link_words s) (length (link_words s)) n ∙ rw (p, e))
+  module _ (l i : ℕ) (p : PairRead (link_words s) l i) where
+    pub node_query_read : ends_at (link_words s) 5 ≡ true → ReadsBody s n 2 (NodeQuery n l i)
+    node_query_read e =
+        record { message = sym (node_query_form (link_words s) (length (link_words s)) n ∙ rw (p.stands, e, p.level_is, p.id_is)); placed = tt; counted = tt }
 
-    pub no_node_no_end : ends_at 5 ≡ false → ReadsBody s n 6 Bad
-    no_node_no_end e = bad 6 (no_node_form (link_words s) (length (link_words s)) n ∙ rw (p, e))
-
-    module _ (l i : ℕ) (is-l : l ≡ number.of (drop 1 (link_words s))) (is-i : i ≡ value.of (drop 2 (link_words s))) where
-      pub node_query_read : ends_at 5 ≡ true → ReadsBody s n 2 (NodeQuery n l i)
-      node_query_read e = record { message = sym (node_query_form (link_words s) (length (link_words s)) n ∙ rw (p, e, is-l, is-i)); placed = tt; counted = tt }
-
-      pub no_node_read : ends_at 5 ≡ true → ReadsBody s n 6 (NoNode n l i)
-      no_node_read e = record { message = sym (no_node_form (link_words s) (length (link_words s)) n ∙ rw (p, e, is-l, is-i)); placed = tt; counted = tt }
+    pub no_node_read : ends_at (link_words s) 5 ≡ true → ReadsBody s n 6 (NoNode n l i)
+    no_node_read e =
+        record { message = sym (no_node_form (link_words s) (length (link_words s)) n ∙ rw (p.stands, e, p.level_is, p.id_is)); placed = tt; counted = tt }
 
     module _ (end count : ℕ) (texts : Texts (link_words s) 5 end count) where
-      pub literal_no_end : ends_at end ≡ false → ReadsBody s n 5 Bad
-      literal_no_end e = bad 5 (literal_form (link_words s) (length (link_words s)) n ∙ rw (p, texts.after, e))
+      pub literal_no_end : ends_at (link_words s) end ≡ false → ReadsBody s n 5 Bad
+      literal_no_end e = bad 5 (literal_form (link_words s) (length (link_words s)) n ∙ rw (p.stands, texts.after, e))
 
-      pub literal_read : (l i : ℕ) → l ≡ number.of (drop 1 (link_words s)) → i ≡ value.of (drop 2 (link_words s)) → ends_at end ≡ true
-          → ReadsBody s n 5 (Literal n l i 5 count)
-      literal_read l i is-l is-i e =
-          record { message = sym (literal_form (link_words s) (length (link_words s)) n ∙ rw (p, texts.after, e, is-l, is-i)); placed = refl; counted = texts.count_is }
+      pub literal_read : ends_at (link_words s) end ≡ true → ReadsBody s n 5 (Literal n l i 5 count)
+      literal_read e =
+          record {
+            message = sym (literal_form (link_words s) (length (link_words s)) n ∙ rw (p.stands, texts.after, e, p.level_is, p.id_is));
+            placed = refl;
+            counted = texts.count_is;
+          }
 
-    module _ (numbered : Bool) (is-numbered : numbered ≡ number.is (drop 5 (link_words s))) (at : ℕ) (is_at : at ≡ references_at numbered)
-        (sound : Bool) (end : ℕ) (refs : References (link_words s) at sound end) where
+    module _ (numbered : Bool) (is-numbered : numbered ≡ number.is (drop 5 (link_words s))) (at : ℕ) (is_at : at ≡ references_at numbered) where
       -- A composition by its places.
       form : body_of (length (link_words s)) n 4 (drop 1 (link_words s))
           ≡ cond (pair_is (link_words s) && references_end (link_words s) (length (link_words s)) n at)
           (some (composed (link_words s) (length (link_words s)) n numbered at)) none
       form = composition_form (link_words s) (length (link_words s)) n ∙ rw (← is-numbered, ← is_at)
 
-      pub composition_falls : sound ≡ false → ReadsBody s n 4 Bad
-      composition_falls o = bad 4 (form ∙ rw (p, sym refs.rises ∙ o))
+      pub composition_falls : Falls (link_words s) at → ReadsBody s n 4 Bad
+      composition_falls f = bad 4 (form ∙ rw (p.stands, f.falls))
 
-      pub composition_no_end : sound ≡ true → ends_at end ≡ false → ReadsBody s n 4 Bad
-      composition_no_end o e = bad 4 (form ∙ rw (p, sym refs.rises ∙ o, refs.after o, e))
+      module _ (end : ℕ) (refs : References (link_words s) at end) where
+        pub composition_no_end : ends_at (link_words s) end ≡ false → ReadsBody s n 4 Bad
+        composition_no_end e = bad 4 (form ∙ rw (p.stands, refs.rises, refs.after, e))
 
-      pub composition_read : (l i x : ℕ) → l ≡ number.of (drop 1 (link_words s)) → i ≡ value.of (drop 2 (link_words s))
-          → x ≡ number.of (drop 5 (link_words s)) → sound ≡ true → ends_at end ≡ true → ReadsBody s n 4 (Composition n l i numbered x at (end - at))
-      composition_read l i x is-l is-i is_x o e =
-          let c = refs.count o in
-          record {
-            message = sym (form ∙ rw (p, sym refs.rises ∙ o, refs.after o, e, is-l, is-i, is_x));
-            placed = is_at;
-            counted = omega arith;
-          }
+        pub composition_read : (x : ℕ) → x ≡ number.of (drop 5 (link_words s)) → ends_at (link_words s) end ≡ true
+            → ReadsBody s n 4 (Composition n l i numbered x at (end - at))
+        composition_read x is_x e =
+            let c = refs.count in
+            record {
+              message = sym (form ∙ rw (p.stands, refs.rises, refs.after, e, p.level_is, p.id_is, is_x));
+              placed = is_at;
+              counted = omega arith;
+            }
 
   pub opening_no_numbers : numbers_are (link_words s) 1 7 ≡ false → ReadsBody s n 3 Bad
   opening_no_numbers p = bad 3 (opening_form (link_words s) (length (link_words s)) n ∙ rw p)
@@ -100,11 +89,11 @@ module _ (s : List ℕ) (n : ℕ) where
       unfolding cell_values
       opening_no_cells e = bad 3 (opening_form (link_words s) (length (link_words s)) n ∙ rw (p, v, ← is-q, e))
 
-      pub opening_no_end : values_are (q * 3 * 5) (drop 11 (link_words s)) ≡ true → ends_at (11 + q * 3 * 5 * 3) ≡ false → ReadsBody s n 3 Bad
+      pub opening_no_end : values_are (q * 3 * 5) (drop 11 (link_words s)) ≡ true → ends_at (link_words s) (11 + q * 3 * 5 * 3) ≡ false → ReadsBody s n 3 Bad
       unfolding cell_values
       opening_no_end e f = bad 3 (opening_form (link_words s) (length (link_words s)) n ∙ rw (p, v, ← is-q, e, f))
 
-      pub opening_read : (m : Message) → values_are (q * 3 * 5) (drop 11 (link_words s)) ≡ true → ends_at (11 + q * 3 * 5 * 3) ≡ true
+      pub opening_read : (m : Message) → values_are (q * 3 * 5) (drop 11 (link_words s)) ≡ true → ends_at (link_words s) (11 + q * 3 * 5 * 3) ≡ true
           → meant (link_words s) m ≡ some (opening_by_places (link_words s) n) → Placed m → Counted (link_words s) m → ReadsBody s n 3 m
       unfolding cell_values
       opening_read m e f is place count = record { message = is ∙ sym (opening_form (link_words s) (length (link_words s)) n ∙ rw (p, v, ← is-q, e, f)); placed = place; counted = count }
@@ -119,15 +108,15 @@ pub read_not_whole : (s : List ℕ) → (length s % 4 ≡ 0 → ⊥) → Reads s
 unfolding parse
 read_not_whole s h = record { message = rw (ne_eqb (length s % 4) 0 h); placed = tt; counted = tt }
 
-module _ (s : List ℕ) (whole : length s % 4 ≡ 0) (w k : ℕ) (first : w ≡ get_or (link_words s) 0 0) (kind : k ≡ kind_of w) where
-  pub read_no_head : (k ≡ 1 → ⊥) → Reads s Bad
+module _ (s : List ℕ) (whole : length s % 4 ≡ 0) (w : ℕ) (first : w ≡ get_or (link_words s) 0 0) where
+  pub read_no_head : eqb (kind_of w) 1 ≡ false → Reads s Bad
   unfolding parse parse_words read one head_word
-  read_no_head h = record { message = rw (eq-eqb (length s % 4) 0 whole, ← first, ← kind, ne_eqb k 1 h); placed = tt; counted = tt }
+  read_no_head h = record { message = rw (eq-eqb (length s % 4) 0 whole, ← first, h); placed = tt; counted = tt }
 
-  pub read_whole : k ≡ 1 → (x : ℕ) → x ≡ rest_of w → (m : Message) → ReadsBody s (x % 2 ^ 24) (x / 2 ^ 24) m → Reads s m
+  pub read_whole : eqb (kind_of w) 1 ≡ true → (x : ℕ) → x ≡ rest_of w → (m : Message) → ReadsBody s (x % 2 ^ 24) (x / 2 ^ 24) m → Reads s m
   unfolding parse parse_words read one head_word
   read_whole h x e m b =
-      record { message = b.message ∙ rw (eq-eqb (length s % 4) 0 whole, ← first, ← kind, eq-eqb k 1 h, ← e); placed = b.placed; counted = b.counted }
+      record { message = b.message ∙ rw (eq-eqb (length s % 4) 0 whole, ← first, h, ← e); placed = b.placed; counted = b.counted }
 
 number_meant : (ws : List ℕ) (m : Message) → number_of m ≡ type_answer (meant ws m)
 unfolding type_answer type_of

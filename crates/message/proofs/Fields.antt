@@ -1,14 +1,8 @@
 -- Laws of fields: what is printed is read again, and what is read is printed again. Each field is lawful by itself, and `read_to` and `taken`
 -- make of that one link of a chain.
-use mathlib.Core.Bool.{Bool, true, false, cond, ◌&&◌, ◌||◌, false≢true, and-false}
-use mathlib.Core.List.{List, [], ◌∷◌, ◌++◌, append_assoc}
-use mathlib.Core.Option.{Option, none, some}
-use mathlib.Core.Path.{◌≡◌, refl, sym, ap, ◌∙◌}
-use Prim.Native.Nat.{ℕ, zero, suc, ◌+◌, ◌*◌, ◌/◌, ◌%◌, ◌^◌, ◌<◌}
-use native.Mathlib.Omega.{arith}
-use borrow.Author.Tests.{eqb-true, eq-eqb, ne_eqb, ltb-true, lt-ltb}
-use lib.Dec.{ltb, eqb, lit<}
-use lib.ListN.{length, get_or, drop}
+use Rattle.std.proofs.Common.{Bool, true, false, cond, ◌&&◌, ◌||◌, List, [], ◌∷◌, ◌++◌, append_assoc, ◌≡◌, refl, sym, ap, ◌∙◌, ℕ, zero, suc, ◌+◌, ◌*◌, ◌/◌, ◌%◌, ◌^◌, ◌<◌, arith, eqb-true, eq-eqb, ne_eqb, ltb-true, lt-ltb, ltb, eqb, lit<, length, get_or, drop}
+use Rattle.std.proofs.Math.Bool.{false≢true, and-false}
+use Rattle.std.proofs.Math.Option.{Option, none, some}
 use Rattle.message.specs.Words.{word_of, kind_of, rest_of, with_kind, Word, plain, number_word, part_word, head_word, reference_word, word_of_bytes, many_of, top_byte, middle_byte, low_byte, carries_three_bytes, carries_two_bytes, carries_one_byte}
 use Rattle.message.specs.Fields.{Field, read, one, number, head, parts_test, parts_value, value, values_are, values_of, values_after, values_to, values, Every, many_from, many_after, many_to, many, maybe_of, maybe_after, maybe_to, MaybeFits, maybe, maybe_number, only, rising, references, text_from, text_after, text_to, carries, text}
 use Rattle.message.proofs.Words.{Bytes, Small, every_append, and_left, and_right, and_both, kind_with, rest_with, with_rest, with_small, with_mod, rest_below, LawfulWord, plain_lawful, head_lawful, reference_lawful}

@@ -6,3 +6,4 @@ pub mod Messages
 pub mod Reading
 pub mod Answers
 pub mod Parts
+pub mod Codes

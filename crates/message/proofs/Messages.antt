@@ -1,14 +1,8 @@
 -- The laws of messages: a valid message written and read is the same message, what is read and written again is the same bytes, and a
 -- composition whose order falls is none. Each type is one chain of its fields in either direction.
-use mathlib.Core.Bool.{Bool, true, false, cond, ◌&&◌, false≢true}
-use mathlib.Core.List.{List, [], ◌∷◌, ◌++◌}
-use mathlib.Core.Option.{Option, none, some}
-use mathlib.Core.Path.{◌≡◌, refl, sym, ap, ◌∙◌, subst}
-use Prim.Native.Nat.{ℕ, ◌+◌, ◌*◌, ◌%◌, ◌^◌, ◌<◌, ◌≤◌}
-use native.Mathlib.Omega.{arith}
-use borrow.Author.Tests.{eqb-true, eq-eqb}
-use lib.Dec.{eqb, lit<}
-use lib.ListN.{length, length-append}
+use Rattle.std.proofs.Common.{Bool, true, false, cond, ◌&&◌, List, [], ◌∷◌, ◌++◌, ◌≡◌, refl, sym, ap, ◌∙◌, subst, ℕ, ◌+◌, ◌*◌, ◌%◌, ◌^◌, ◌<◌, ◌≤◌, arith, eqb-true, eq-eqb, eqb, lit<, length, length-append}
+use Rattle.std.proofs.lemmas.Bool.{false≢true}
+use Rattle.std.proofs.Math.Option.{Option, none, some}
 use Rattle.message.specs.Words.{link_words, link_bytes, kind_of, rest_of, with_kind, plain, Head, head_word, Ref, reference_word, end_word, is_end_word, carries_three_bytes, carries_two_bytes, carries_one_byte}
 use Rattle.message.specs.Fields.{Field, read, one, number, head, value, values, many, many_to, maybe, maybe_number, only, rising, references, carries, text}
 use Rattle.message.specs.Messages.{Msg, opening_query, node_query, opening, composition, literal, no_node, cell_values, headed, words_then, size_of, encode_words, encode, finish, body_of, parse_words, parse, Parts, Valid}

@@ -1,17 +1,12 @@
 -- Laws of a message's parts by place: what `parse` gives for cells, references and bytes is what stands in the words.
-use mathlib.Core.Bool.{Bool, true, false, cond, ◌&&◌}
-use mathlib.Core.List.{List, [], ◌∷◌, ◌++◌}
-use mathlib.Core.Option.{none, some}
-use mathlib.Core.Path.{◌≡◌, refl, sym, ap, ◌∙◌, subst}
-use Prim.Native.Nat.{ℕ, zero, suc, ◌+◌, ◌*◌, ◌-◌, ◌/◌, ◌%◌, ◌<◌, ◌≤◌, min}
-use native.Mathlib.Decide.{dec_le}
-use native.Mathlib.Omega.{arith}
-use lib.Dec.{eqb}
-use lib.ListN.{length, get_or, set, take, drop, length-take, length-drop, drop_of_length-le, get_or-eq_default}
-use lib.Seq.{take_all, take-take, take-length, get_or-take, get_or-drop, paste, paste-zero, paste-suc}
+use Rattle.std.proofs.Common.{Bool, true, false, cond, ◌&&◌, List, [], ◌∷◌, ◌++◌, ◌≡◌, refl, sym, ap, ◌∙◌, subst, ℕ, zero, suc, ◌+◌, ◌*◌, ◌-◌, ◌/◌, ◌%◌, ◌<◌, ◌≤◌, min, arith, eqb, length, get_or, set, take, drop, length-take, length-drop, drop_of_length-le, take_all, take-take, get_or-take, get_or-drop}
+use Rattle.std.proofs.Math.Option.{none, some}
+use Rattle.std.proofs.Math.Decide.{dec_le}
+use Rattle.std.proofs.Math.ListN.{get_or-eq_default}
+use Rattle.std.proofs.Math.Seq.{take-length, paste, paste-zero, paste-suc}
 use Rattle.message.specs.Words.{Word, Ref, word_of, link_words, rest_of, reference_word, top_byte, middle_byte, low_byte, carries_three_bytes, carries_two_bytes, carries_one_byte, is_end_word}
 use Rattle.message.specs.Fields.{one, head, number, value, values_of, many_from, text_from, text_after}
-use Rattle.message.specs.Messages.{Msg, opening_query, node_query, composition, literal, no_node, cell_values, body_of, parse_words, parse}
+use Rattle.message.specs.Messages.{Msg, opening_query, node_query, literal, no_node, cell_values, body_of, parse_words, parse}
 use Rattle.message.specs.Reading.{references_at, numbers_are, pair_is, opening_by_places}
 use Rattle.message.specs.Parts.{cells_in, references_in, bytes_in, is_numbered, CellRead, ReferenceRead, three_each, fronted, Copied}
 use Rattle.message.proofs.Words.{Bytes, length_words}

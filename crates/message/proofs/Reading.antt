@@ -1,19 +1,14 @@
 -- Laws of reading by place: each field of a message stands at a known word, so a chain of fields is a row of tests on words, with the values by place.
-use mathlib.Core.Bool.{Bool, true, false, cond, ◌&&◌, false≢true, and_assoc}
-use mathlib.Core.List.{List, [], ◌∷◌}
-use mathlib.Core.Option.{Option, none, some}
-use mathlib.Core.Path.{◌≡◌, refl, sym, ap, ◌∙◌}
-use Prim.Native.Nat.{ℕ, zero, suc, ◌+◌, ◌*◌, ◌-◌, ◌/◌, ◌<◌, ◌≤◌}
-use native.Mathlib.Nat.{add-zero}
-use native.Mathlib.Numerals.{add-one}
-use native.Mathlib.Omega.{arith}
-use borrow.Author.Tests.{le-leb, lt-leb}
-use lib.Dec.{leb, eqb}
-use lib.ListN.{length, get_or, drop, length-drop, drop_of_length-le, get_or-eq_default}
-use lib.Seq.{get_or-drop, drop-drop, drop-cons}
-use Rattle.message.specs.Words.{Word, Ref, link_words, kind_of, rest_of, plain, reference_word, carries_three_bytes, carries_two_bytes, carries_one_byte, is_end_word}
+use Rattle.std.proofs.Common.{Bool, true, false, cond, ◌&&◌, List, [], ◌∷◌, ◌≡◌, refl, sym, ap, ◌∙◌, ℕ, zero, suc, ◌+◌, ◌*◌, ◌-◌, ◌/◌, ◌<◌, ◌≤◌, max, add-zero, add-one, arith, le-leb, lt-ltb, leb, ltb, eqb, length, get_or, drop, length-drop, drop_of_length-le, get_or-drop, drop-drop, drop-cons}
+use Rattle.std.proofs.Math.Bool.{and_assoc}
+use Rattle.std.proofs.Math.Option.{Option, none, some}
+use Rattle.std.proofs.lemmas.Bool.{lt-leb}
+use Rattle.std.proofs.Math.Decide.{dec_le}
+use Rattle.std.proofs.Math.ListN.{get_or-eq_default}
+use Rattle.std.specs.List.{list_all, range_with_len}
+use Rattle.message.specs.Words.{Word, Ref, link_words, kind_of, rest_of, plain, reference_word, carries_three_bytes, carries_two_bytes, carries_one_byte, carried_by, is_end_word}
 use Rattle.message.specs.Fields.{Field, read, one, number, parts_test, parts_value, value, values_are, values_of, values_after, values, many, many_from, many_after, maybe_of, maybe_after, maybe, maybe_number, only, references, rising, text, text_from, text_after}
-use Rattle.message.specs.Reading.{stated_by, references_at, numbers_are, References, Threes, Texts, pair_is, opening_by_places}
+use Rattle.message.specs.Reading.{stated_by, references_at, numbers_are, Falls, References, Threes, Texts, pair_is, opening_by_places}
 use Rattle.message.specs.Messages.{Msg, opening_query, node_query, composition, literal, no_node, cell_values, finish, body_of}
 use Rattle.message.proofs.Words.{length_words}
 use Rattle.message.proofs.Rising.{rising_from, rising_from_zero}
@@ -37,9 +32,9 @@ pub no_value : (s : List ℕ) (k : ℕ) → length s / 4 ≤ k → false ≡ val
 unfolding value parts_test plain kind_of
 no_value s k h = rw (drop_of_length-le (link_words s) {i = k} (simp length_words h))
 
-pub value-value : (ws : List ℕ) (k : ℕ) → value.of (drop k ws) ≡ parts_value (get_or ws k 0) (get_or ws (k + 1) 0) (get_or ws (k + 2) 0)
+pub value_by_parts : (ws : List ℕ) (k : ℕ) → value.of (drop k ws) ≡ parts_value (get_or ws k 0) (get_or ws (k + 1) 0) (get_or ws (k + 2) 0)
 unfolding value
-value-value ws k = rw (head_drop ws k, get_or-drop k ws 1 0, get_or-drop k ws 2 0)
+value_by_parts ws k = rw (head_drop ws k, get_or-drop k ws 1 0, get_or-drop k ws 2 0)
 
 pub no_value_value : (s : List ℕ) (k : ℕ) → length s / 4 ≤ k → 0 ≡ value.of (drop k (link_words s))
 unfolding value parts_value plain rest_of
@@ -55,43 +50,23 @@ end_test s k = rw (head_drop (link_words s) k, length-drop k (link_words s), len
 pub drop_more : (ws : List ℕ) (k : ℕ) → k < length ws → drop k ws ≡ get_or ws k 0 ∷ drop (k + 1) ws
 drop_more ws k h = drop-cons ws k 0 h ∙ ap (λ (n : ℕ). get_or ws k 0 ∷ drop n ws) (sym (add-one k))
 
-less_one : (n : ℕ) → suc n - 1 ≡ n
-less_one n = omega arith
-
--- Numbers.
-pub numbers_fail : (ws : List ℕ) (k count : ℕ) → 0 < count → number.is (drop k ws) ≡ false → false ≡ numbers_are ws k count
-unfolding numbers_are
-numbers_fail ws k zero h e = absurd (omega arith)
-numbers_fail ws k (suc count) h e = rw e
-
-pub numbers_more : (ws : List ℕ) (k count left : ℕ) → 0 < count → left ≡ count - 1 → number.is (drop k ws) ≡ true
-    → numbers_are ws k count ≡ numbers_are ws (k + 1) left
-unfolding numbers_are
-numbers_more ws k zero left h z e = absurd (omega arith)
-numbers_more ws k (suc count) left h z e = rw (e, z, less_one count)
-
-pub numbers_none : (ws : List ℕ) (k count : ℕ) → count ≡ 0 → true ≡ numbers_are ws k count
-unfolding numbers_are
-numbers_none ws k count e = rw e
-
 -- Values.
 pub value_after : (ws : List ℕ) (k : ℕ) → value.after (drop k ws) ≡ drop (k + 3) ws
 unfolding value
 value_after ws k = drop-drop 3 k ws
 
-pub values_fail : (ws : List ℕ) (k left : ℕ) → 0 < left → value.is (drop k ws) ≡ false → false ≡ values_are left (drop k ws)
+values_from : (n i at : ℕ) (ws : List ℕ) → list_all (λ k. value.is (drop (at + k * 3) ws)) (range_with_len i n) ≡ values_are n (drop (at + i * 3) ws)
 unfolding values_are
-values_fail ws k zero h e = absurd (omega arith)
-values_fail ws k (suc left) h e = rw e
+values_from zero i at ws = refl
+values_from (suc n) i at ws =
+    ap (λ (t : Bool). value.is (drop (at + i * 3) ws) && t)
+    (values_from n (i + 1) at ws
+    ∙ (ap (λ (k : ℕ). values_are n (drop k ws)) {x = at + (i + 1) * 3} {y = at + i * 3 + 3} (omega arith)
+    ∙ ap (values_are n) (sym (value_after ws (at + i * 3)))))
 
-pub values_more : (ws : List ℕ) (k left : ℕ) → 0 < left → value.is (drop k ws) ≡ true → values_are left (drop k ws) ≡ values_are (left - 1) (drop (k + 3) ws)
-unfolding values_are
-values_more ws k zero h e = absurd (omega arith)
-values_more ws k (suc left) h e = rw (e, less_one left, value_after ws k)
-
-pub values_end : (ws : List ℕ) (k left : ℕ) → left ≡ 0 → true ≡ values_are left (drop k ws)
-unfolding values_are
-values_end ws k left e = rw e
+-- The tests one after the other.
+pub values_all : (n at : ℕ) (ws : List ℕ) → list_all (λ k. value.is (drop (at + k * 3) ws)) (range_with_len 0 n) ≡ values_are n (drop at ws)
+values_all n at ws = values_from n 0 at ws ∙ ap (λ (k : ℕ). values_are n (drop k ws)) {x = at + 0 * 3} {y = at} (omega arith)
 
 pub values_after_lem : (n : ℕ) (ws : List ℕ) (k : ℕ) → values_after n (drop k ws) ≡ drop (k + n * 3) ws
 unfolding values_after
@@ -160,25 +135,31 @@ module _ (ws : List ℕ) (at k least : ℕ) (m : Risen ws at k least) where
           after = m.after ∙ many_after_more reference_word ws k h (rw (← here) (sym e));
         }
 
-    pub risen_falls : rest_of w / 64 < least → References ws at false k
-    risen_falls under =
-        let no : rising (many_from reference_word (drop at ws)) ≡ false = m.rises ∙ (first_met ∙ rw (lt-leb least (rest_of w / 64) under)) in
-        record { rises = sym no; count = λ t. absurd (false≢true t); after = λ t. absurd (false≢true t) }
+    pub risen_falls : rest_of w / 64 < least → Falls ws at
+    risen_falls under = record { falls = m.rises ∙ (first_met ∙ rw (lt-leb least (rest_of w / 64) under)) }
 
-  ended : many_from reference_word (drop k ws) ≡ [] → many_after reference_word (drop k ws) ≡ drop k ws → References ws at true k
+  ended : many_from reference_word (drop k ws) ≡ [] → many_after reference_word (drop k ws) ≡ drop k ws → References ws at k
   unfolding rising_from
   ended over stop =
       let n = m.count in
       let z = ap length over in
-      record { rises = sym (m.rises ∙ rw over); count = λ t. omega arith; after = λ t. m.after ∙ stop }
+      record { rises = m.rises ∙ rw over; count = omega arith; after = m.after ∙ stop }
 
-  pub risen_stop : (w : ℕ) → k < length ws → w ≡ get_or ws k 0 → false ≡ reference_word.is w → References ws at true k
+  pub risen_stop : (w : ℕ) → k < length ws → w ≡ get_or ws k 0 → false ≡ reference_word.is w → References ws at k
   risen_stop w h here e =
       let no : reference_word.is (get_or ws k 0) ≡ false = rw (← here) (sym e) in
       ended (many_stop reference_word ws k h no) (many_after_stop reference_word ws k h no)
 
-  pub risen_out : length ws ≤ k → References ws at true k
+  pub risen_out : length ws ≤ k → References ws at k
   risen_out h = ended (many_out reference_word ws k h) (many_after_out reference_word ws k h)
+
+-- All words were met, or none, where there are none from place `at` on.
+pub risen_last : (ws : List ℕ) (at k least words end : ℕ) → Risen ws at k least → words ≡ length ws → words ≤ k → (at ≤ words → k ≤ words) → end ≡ max at words
+    → References ws at end
+risen_last ws at k least words end m n out in_words is = elim (dec_le at words) [
+  | yes h ↦ let same : end ≡ k = omega (arith, in_words h) in rw same (risen_out ws at k least m (omega arith))
+  | no h ↦ let same : end ≡ at = omega arith in rw same (risen_out ws at at 0 (risen_none ws at) (omega arith))
+]
 
 -- The words of a literal.
 pub threes_none : (ws : List ℕ) (at : ℕ) → Threes ws at at
@@ -196,44 +177,85 @@ threes_more ws at k t h e =
     let more = text_more ws k h (sym e) in
     record { low = omega arith; high = omega arith; count = omega (arith, more.0); after = t.after ∙ more.1 }
 
+-- What a word carries says which test holds.
+full_tests : (t3 t2 t1 : Bool) → 3 ≤ cond t3 3 (cond t2 2 (cond t1 1 0)) → t3 ≡ true
+full_tests true t2 t1 h = refl
+full_tests false true t1 h = absurd (omega arith)
+full_tests false false true h = absurd (omega arith)
+full_tests false false false h = absurd (omega arith)
+
+short_tests : (t3 t2 t1 : Bool) → cond t3 3 (cond t2 2 (cond t1 1 0)) < 3 → t3 ≡ false
+short_tests true t2 t1 h = absurd (omega arith)
+short_tests false t2 t1 h = refl
+
+most_tests : (t3 t2 t1 : Bool) → cond t3 3 (cond t2 2 (cond t1 1 0)) ≤ 3
+most_tests true t2 t1 = omega arith
+most_tests false true t1 = omega arith
+most_tests false false true = omega arith
+most_tests false false false = omega arith
+
+pub full_word : (w : ℕ) → 3 ≤ carried_by w → true ≡ carries_three_bytes w
+unfolding carried_by
+full_word w h = sym (full_tests (carries_three_bytes w) (carries_two_bytes w) (carries_one_byte w) h)
+
+pub short_word : (w : ℕ) → carried_by w < 3 → carries_three_bytes w ≡ false
+unfolding carried_by
+short_word w h = short_tests (carries_three_bytes w) (carries_two_bytes w) (carries_one_byte w) h
+
+pub carried_most : (w : ℕ) → carried_by w ≤ 3
+unfolding carried_by
+carried_most w = most_tests (carries_three_bytes w) (carries_two_bytes w) (carries_one_byte w)
+
+pub carried_in : (ws : List ℕ) (k : ℕ) → 0 < carried_by (get_or ws k 0) → k < length ws
+unfolding carried_by carries_three_bytes carries_two_bytes carries_one_byte kind_of
+carried_in ws k h = elim (dec_le (length ws) k) [
+  | yes out ↦ absurd (let none = ap carried_by (get_or-eq_default ws 0 {n = k} out) in omega arith)
+  | no here ↦ omega arith
+]
+
 pub no_three : (ws : List ℕ) (k : ℕ) → length ws ≤ k → carries_three_bytes (get_or ws k 0) ≡ false
 unfolding carries_three_bytes kind_of
 no_three ws k h = rw (get_or-eq_default ws 0 {n = k} h)
 
+-- A word with fewer than three bytes is the last.
+last_tests : (w : ℕ) (rest : List ℕ) (t2 t1 : Bool) → carries_three_bytes w ≡ false → carries_two_bytes w ≡ t2 → carries_one_byte w ≡ t1
+    → (length (text_from (w ∷ rest)) ≡ carried_by w) × (text_after (w ∷ rest) ≡ cond (ltb 0 (carried_by w)) rest (w ∷ rest))
+unfolding text_from text_after carried_by
+last_tests w rest true t1 e3 e2 e1 = (rw (e3, e2), rw (e3, e2))
+last_tests w rest false true e3 e2 e1 = (rw (e3, e2, e1), rw (e3, e2, e1))
+last_tests w rest false false e3 e2 e1 = (rw (e3, e2, e1), rw (e3, e2, e1))
+
 module _ (ws : List ℕ) (at k : ℕ) (t : Threes ws at k) where
-  pub text_out : length ws ≤ k → Texts ws at k ((k - at) * 3)
+  text_out : length ws ≤ k → Texts ws at k ((k - at) * 3)
   unfolding text_from text_after
   text_out h =
-      let count = t.count in
       let gone = drop_of_length-le ws {i = k} h in
       record { count_is = sym (t.count ∙ rw gone (omega arith)); after = t.after ∙ rw gone }
 
-  module _ (w full : ℕ) (h : k < length ws) (here : w ≡ get_or ws k 0) (stops : carries_three_bytes (get_or ws k 0) ≡ false) (is-full : full ≡ (k - at) * 3) where
-    no_full : carries_three_bytes w ≡ false
-    no_full = rw here stops
+  module _ (many : ℕ) (is : many ≡ carried_by (get_or ws k 0)) (stops : carries_three_bytes (get_or ws k 0) ≡ false) where
+    last : (length (text_from (get_or ws k 0 ∷ drop (k + 1) ws)) ≡ carried_by (get_or ws k 0))
+        × (text_after (get_or ws k 0 ∷ drop (k + 1) ws) ≡ cond (ltb 0 (carried_by (get_or ws k 0))) (drop (k + 1) ws) (get_or ws k 0 ∷ drop (k + 1) ws))
+    last = last_tests (get_or ws k 0) (drop (k + 1) ws) _ _ stops refl refl
 
-    pub text_two : carries_two_bytes w ≡ true → Texts ws at (k + 1) (full + 2)
-    unfolding text_from text_after
-    text_two e =
+    text_full : k < length ws → many ≡ 0 → Texts ws at k ((k - at) * 3)
+    text_full h z =
+        let none : carried_by (get_or ws k 0) ≡ 0 = sym is ∙ z in
         record {
-          count_is = sym (t.count ∙ rw (drop_more ws k h, ← here, no_full, e) (omega arith));
-          after = t.after ∙ rw (drop_more ws k h, ← here, no_full, e);
+          count_is = sym (t.count ∙ rw (drop_more ws k h) (omega (arith, last.0)));
+          after = t.after ∙ rw (drop_more ws k h) (last.1 ∙ rw none);
         }
 
-    pub text_one : carries_two_bytes w ≡ false → carries_one_byte w ≡ true → Texts ws at (k + 1) (full + 1)
-    unfolding text_from text_after
-    text_one e o =
-        record {
-          count_is = sym (t.count ∙ rw (drop_more ws k h, ← here, no_full, e, o) (omega arith));
-          after = t.after ∙ rw (drop_more ws k h, ← here, no_full, e, o);
-        }
+    -- The next word carries none, or it is no word.
+    pub text_ends : many ≡ 0 → Texts ws at k ((k - at) * 3)
+    text_ends z = elim (dec_le (length ws) k) [ yes out ↦ text_out out | no here ↦ text_full (omega arith) z ]
 
-    pub text_full : carries_two_bytes w ≡ false → carries_one_byte w ≡ false → Texts ws at k full
-    unfolding text_from text_after
-    text_full e o =
+    -- It carries one byte or two.
+    pub text_ends_after : 0 < many → Texts ws at (k + 1) ((k - at) * 3 + many)
+    text_ends_after above =
+        let here : k < length ws = carried_in ws k (omega arith) in
         record {
-          count_is = sym (t.count ∙ rw (drop_more ws k h, ← here, no_full, e, o) (omega arith));
-          after = t.after ∙ rw (drop_more ws k h, ← here, no_full, e, o);
+          count_is = sym (t.count ∙ rw (drop_more ws k here) (omega (arith, last.0)));
+          after = t.after ∙ rw (drop_more ws k here) (last.1 ∙ rw (lt-ltb 0 (carried_by (get_or ws k 0)) (omega arith)));
         }
 
 -- A chain of fields by their places: all tests, and then the message.

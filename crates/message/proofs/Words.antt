@@ -1,15 +1,11 @@
 -- Laws of words: bytes and words give each other back, and so does each kind of word with what it says.
-use mathlib.Core.Bool.{Bool, true, false, ◌&&◌, false≢true}
-use mathlib.Core.List.{List, [], ◌∷◌, ◌++◌}
-use mathlib.Core.Path.{◌≡◌, refl, sym, ap, ◌∙◌}
-use Prim.Native.Nat.{ℕ, suc, ◌+◌, ◌*◌, ◌/◌, ◌%◌, ◌^◌, ◌<◌, ◌≤◌}
-use native.Mathlib.Numerals.{towards_suc}
-use native.Mathlib.Omega.{arith}
-use borrow.Author.Tests.{eqb-true, eqb-false, eq-eqb, ne_eqb, ltb-true, lt-ltb}
-use lib.Dec.{ltb, eqb}
-use lib.ListN.{length, get_or, take, drop, take-append-drop, get_or-eq_default}
-use lib.Seq.{drop-cons, get_or_at, length-take-le}
-use Rattle.message.specs.Words.{word_of, link_words, bytes_of, link_bytes, kind_of, rest_of, with_kind, Word, plain, Head, head_word, Ref, reference_word}
+use Rattle.std.proofs.Common.{Bool, true, false, cond, ◌&&◌, List, [], ◌∷◌, ◌++◌, ◌≡◌, refl, sym, ap, ◌∙◌, ℕ, suc, ◌+◌, ◌*◌, ◌/◌, ◌%◌, ◌^◌, ◌<◌, ◌≤◌, arith, eqb-true, eq-eqb, ne_eqb, ltb-true, lt-ltb, ltb, eqb, length, get_or, take, drop, take-append-drop, drop-cons, length-take-le}
+use Rattle.std.proofs.lemmas.Bool.{false≢true, eqb-false}
+use Rattle.std.proofs.Math.Numerals.{towards_suc}
+use Rattle.std.proofs.Math.ListN.{get_or-eq_default}
+use Rattle.std.proofs.Math.Seq.{get_or_at}
+use Rattle.std.proofs.lemmas.Bool.Decides.{nat_tests}
+use Rattle.message.specs.Words.{word_of, link_words, bytes_of, link_bytes, kind_of, rest_of, with_kind, many_of, middle_byte, low_byte, carries_three_bytes, carries_two_bytes, carries_one_byte, carried_by, Word, plain, Head, head_word, Ref, reference_word}
 use Rattle.message.specs.Fields.{Every}
 
 -- Numbers that are bytes, and numbers that are words.
@@ -278,3 +274,12 @@ module _ (s : List ℕ) (k : ℕ) (h : k * 4 + 4 ≤ length s) where
 
 pub no_word : (s : List ℕ) (k : ℕ) → length s / 4 ≤ k → 0 ≡ get_or (link_words s) k 0
 no_word s k h = sym (get_or-eq_default (link_words s) 0 {n = k} (simp length_words h))
+
+-- What a word carries, by its quotient and remainders.
+pub carried_is : (w : ℕ)
+    → carried_by w
+    ≡ cond (eqb (kind_of w) 5)
+    (cond (eqb (rest_of w / 2 ^ 24) 3) 3
+    (cond (eqb (rest_of w / 2 ^ 24) 2 && eqb (rest_of w % 256) 0) 2 (cond (eqb (rest_of w / 2 ^ 24) 1 && eqb (rest_of w % 65536) 0) 1 0))) 0
+unfolding carried_by carries_three_bytes carries_two_bytes carries_one_byte many_of middle_byte low_byte
+carried_is w = grind (arith, nat_tests)

@@ -1,7 +1,8 @@
 -- What the reader answers, said by `parse`: which message its cases stand for, over the words of the bytes that were read.
-use Rattle.std.specs.Prelude.{Bool, true, cond, ◌&&◌, List, ◌≡◌, ℕ, zero, suc, ◌+◌, ◌*◌, ◌-◌, ◌^◌, ◌≤◌, length, drop}
+use Rattle.std.specs.Prelude.{Bool, true, false, cond, ◌&&◌, List, ◌≡◌, ℕ, zero, suc, ◌+◌, ◌*◌, ◌-◌, ◌^◌, ◌≤◌, length, drop}
 use Rattle.std.proofs.Math.Option.{Option, none, some}
-use Rattle.message.specs.Words.{link_words, reference_word}
+use Rattle.std.specs.Prelude.{Option as Answer, None, Some}
+use Rattle.message.specs.Words.{link_words, reference_word, is_end_word}
 use Rattle.message.specs.Fields.{number, value, values_of, many_from, many_after, rising, text_from, text_after}
 use Rattle.message.specs.Messages.{Msg, opening_query, node_query, opening, composition, literal, no_node, type_of, cell_values, body_of, parse}
 use Rattle.message.specs.declared.Message.{Message}
@@ -72,11 +73,15 @@ unfoldable pub numbers_are : List ℕ → (k count : ℕ) → Bool
 numbers_are ws k zero = true
 numbers_are ws k (suc count) = number.is (drop k ws) && numbers_are ws (k + 1) count
 
--- The references that follow each other from place `at` on end before place `end`, if they rise by index.
-pub record References (ws : List ℕ) (at : ℕ) (sound : Bool) (end : ℕ) : Type 0 where
-  pub rises : sound ≡ rising (many_from reference_word (drop at ws))
-  pub count : sound ≡ true → end ≡ at + length (many_from reference_word (drop at ws))
-  pub after : sound ≡ true → many_after reference_word (drop at ws) ≡ drop end ws
+-- The references that follow each other from place `at` on rise by index, and end before place `end`.
+pub record References (ws : List ℕ) (at end : ℕ) : Type 0 where
+  pub rises : rising (many_from reference_word (drop at ws)) ≡ true
+  pub count : end ≡ at + length (many_from reference_word (drop at ws))
+  pub after : many_after reference_word (drop at ws) ≡ drop end ws
+
+-- They do not rise.
+pub record Falls (ws : List ℕ) (at : ℕ) : Type 0 where
+  pub falls : rising (many_from reference_word (drop at ws)) ≡ false
 
 -- The words from place `at` up to `end` carry three bytes each.
 pub record Threes (ws : List ℕ) (at end : ℕ) : Type 0 where
@@ -93,6 +98,21 @@ pub record Texts (ws : List ℕ) (at end count : ℕ) : Type 0 where
 -- Level and id stand in their places.
 unfoldable pub pair_is : List ℕ → Bool
 pair_is ws = number.is (drop 1 ws) && value.is (drop 2 ws)
+
+-- And what they are.
+pub record PairRead (ws : List ℕ) (level id : ℕ) : Type 0 where
+  pub stands : pair_is ws ≡ true
+  pub level_is : level ≡ number.of (drop 1 ws)
+  pub id_is : id ≡ value.of (drop 2 ws)
+
+-- The end stands at place k.
+abbrev pub ends_at : List ℕ → ℕ → Bool
+ends_at ws k = is_end_word (length ws) (drop k ws)
+
+-- A message that is not well formed is no message.
+abbrev pub or_bad : Answer Message → Message
+or_bad None = Bad
+or_bad (Some m) = m
 
 -- What reading a message's body answers, in a message of that session and type.
 pub record ReadsBody (s : List ℕ) (session type : ℕ) (answer : Message) : Type 0 where

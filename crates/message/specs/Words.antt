@@ -1,6 +1,6 @@
 -- The words of a message and their six kinds. Document 01: "A message is a row of 32-bit words, on the link most significant byte first.
 -- The top 4 bits are the kind, 28 bits remain."
-use Rattle.std.specs.Prelude.{Bool, ◌&&◌, List, [], ◌∷◌, ◌++◌, ℕ, ◌+◌, ◌*◌, ◌/◌, ◌%◌, ◌^◌, ◌<◌, ltb, eqb, length, get_or}
+use Rattle.std.specs.Prelude.{Bool, cond, ◌&&◌, List, [], ◌∷◌, ◌++◌, ℕ, ◌+◌, ◌*◌, ◌/◌, ◌%◌, ◌^◌, ◌<◌, ltb, eqb, length, get_or}
 
 -- Four bytes as one word, the first byte the most significant.
 abbrev pub word_of : (a b c d : ℕ) → ℕ
@@ -106,6 +106,10 @@ carries_two_bytes w = eqb (kind_of w) 5 && (eqb (many_of w) 2 && eqb (low_byte w
 
 unfoldable pub carries_one_byte : ℕ → Bool
 carries_one_byte w = eqb (kind_of w) 5 && (eqb (many_of w) 1 && (eqb (middle_byte w) 0 && eqb (low_byte w) 0))
+
+-- How many bytes a word carries.
+unfoldable pub carried_by : ℕ → ℕ
+carried_by w = cond (carries_three_bytes w) 3 (cond (carries_two_bytes w) 2 (cond (carries_one_byte w) 1 0))
 
 -- "6 end: words in the message."
 unfoldable pub end_word : ℕ → ℕ

@@ -2,6 +2,7 @@
 #![tactic(auto)]
 
 mod field;
+pub mod kind;
 pub mod reader;
 mod run;
 mod word;

@@ -1,82 +1,88 @@
 // Reading a message: question 10, and what a well-formed message says.
-ghost use Rattle.std.specs.Prelude.{◌≡◌, ◌<◌, min, length, get_or, drop};
+ghost use Rattle.std.specs.Prelude.{MatchOption, true, false, ◌&&◌, ◌≡◌, ◌<◌, length, get_or, drop};
 ghost use Rattle.std.proofs.Math.Option.{some};
 ghost use Rattle.message.specs.Words.{link_words};
 ghost use Rattle.message.specs.Messages.{parse};
-ghost use Rattle.message.specs.Reading.{meant, Placed, Counted, Reads, ReadsBody, pair_is, references_at, opening_by_places, number_of, type_answer};
+ghost use Rattle.message.specs.Reading.{or_bad, PairRead, ends_at, meant, Placed, Counted, Reads, ReadsBody, pair_is, references_at, opening_by_places, number_of, type_answer};
 ghost use Rattle.message.specs.Parts.{CellRead, ReferenceRead, Copied, three_each};
 
 use crate::Message;
-use crate::field::{is_end, is_number, is_value, number_at, value_at};
+use crate::field::{is_end, is_number, is_value, number, number_at, value, value_at};
+use crate::kind::Kind;
 use crate::run::{are_values, reference_run, seven_numbers, text_run};
-use crate::word::{kind, load, rest};
+use crate::word::{is_of, load, rest};
 
-// Whether level and id stand in their places.
-fn pair(message: &[u8]) -> bool
-    ensures { result ≡ pair_is (link_words message.now) }
+// What answers a message that is not well formed.
+const BAD: u64 = 10;
+
+// What stands above the type in the answer to a well-formed message.
+const WELL_FORMED: u64 = 4294967296;
+
+// How many sessions there are: their numbers have 24 bits of a head, below the type.
+const SESSIONS: u64 = 16777216;
+
+// Level and id, if they stand in their places.
+#[tactic(auto, unfolding(crate::specs::Reading::pair_is))]
+fn pair(message: &[u8]) -> Option<(u64, u64)>
+    ensures { MatchOption result (pair_is (link_words message.now) ≡ false) (λ read. PairRead (link_words message.now) read.0 read.1) }
 {
-    if !is_number(message, 1) {
-        return false;
-    }
-    is_value(message, 2)
+    Some((number(message, 1)?, value(message, 2)?))
 }
 
-fn opening_query(message: &[u8], session: u64) -> Message
-    ensures { ReadsBody message.now session 1 result }
+// Level and id, if nothing else stands between the head and the end.
+fn pair_alone(message: &[u8]) -> Option<(u64, u64)>
+    ensures { MatchOption result ((pair_is (link_words message.now) && ends_at (link_words message.now) 5) ≡ false)
+        (λ read. PairRead (link_words message.now) read.0 read.1 × (ends_at (link_words message.now) 5 ≡ true)) }
+{
+    let node = pair(message)?;
+    if !is_end(message, 5) {
+        return None;
+    }
+    Some(node)
+}
+
+#[tactic(auto, using(crate::proofs::Answers::opening_query_no_end, crate::proofs::Answers::opening_query_read))]
+fn opening_query(message: &[u8], session: u64) -> Option<Message>
+    ensures { ReadsBody message.now session 1 (or_bad result) }
 {
     if !is_end(message, 1) {
-        return Message::Bad;
+        return None;
     }
-    Message::OpeningQuery { session }
+    Some(Message::OpeningQuery { session })
 }
 
-fn node_query(message: &[u8], session: u64) -> Message
-    ensures { ReadsBody message.now session 2 result }
+#[tactic(auto, using(crate::proofs::Answers::node_query_no_pair, crate::proofs::Answers::node_query_read))]
+fn node_query(message: &[u8], session: u64) -> Option<Message>
+    ensures { ReadsBody message.now session 2 (or_bad result) }
 {
-    if !pair(message) {
-        return Message::Bad;
-    }
-    if !is_end(message, 5) {
-        return Message::Bad;
-    }
-    let level = number_at(message, 1);
-    let id = value_at(message, 2);
-    Message::NodeQuery { session, level, id }
+    let (level, id) = pair_alone(message)?;
+    Some(Message::NodeQuery { session, level, id })
 }
 
-fn no_node(message: &[u8], session: u64) -> Message
-    ensures { ReadsBody message.now session 6 result }
+#[tactic(auto, using(crate::proofs::Answers::no_node_no_pair, crate::proofs::Answers::no_node_read))]
+fn no_node(message: &[u8], session: u64) -> Option<Message>
+    ensures { ReadsBody message.now session 6 (or_bad result) }
 {
-    if !pair(message) {
-        return Message::Bad;
-    }
-    if !is_end(message, 5) {
-        return Message::Bad;
-    }
-    let level = number_at(message, 1);
-    let id = value_at(message, 2);
-    Message::NoNode { session, level, id }
+    let (level, id) = pair_alone(message)?;
+    Some(Message::NoNode { session, level, id })
 }
 
-fn literal(message: &[u8], session: u64) -> Message
-    ensures { ReadsBody message.now session 5 result }
+#[tactic(auto, using(crate::proofs::Answers::literal_no_pair))]
+fn literal(message: &[u8], session: u64) -> Option<Message>
+    ensures { ReadsBody message.now session 5 (or_bad result) }
 {
-    if !pair(message) {
-        return Message::Bad;
-    }
+    let (level, id) = pair(message)?;
     let text = text_run(message, 5);
     if !is_end(message, text.end) {
-        return Message::Bad;
+        return None;
     }
-    let level = number_at(message, 1);
-    let id = value_at(message, 2);
-    Message::Literal {
+    Some(Message::Literal {
         session,
         level,
         id,
         at: 5,
         count: text.count,
-    }
+    })
 }
 
 // The word from which a composition's references stand: after the head, the level, the id and the trail number, if it is there.
@@ -86,26 +92,20 @@ pub fn references_from(numbered: bool) -> usize
     if numbered { 6 } else { 5 }
 }
 
-fn composition(message: &[u8], session: u64) -> Message
-    ensures { ReadsBody message.now session 4 result }
+#[tactic(auto, using(crate::proofs::Answers::composition_no_pair, crate::proofs::Answers::composition_falls, crate::proofs::Answers::composition_no_end))]
+fn composition(message: &[u8], session: u64) -> Option<Message>
+    ensures { ReadsBody message.now session 4 (or_bad result) }
 {
-    if !pair(message) {
-        return Message::Bad;
-    }
+    let (level, id) = pair(message)?;
     let numbered = is_number(message, 5);
     let at = references_from(numbered);
-    let run = reference_run(message, at);
-    if !run.sound {
-        return Message::Bad;
+    let end = reference_run(message, at)?;
+    if !is_end(message, end) {
+        return None;
     }
-    if !is_end(message, run.end) {
-        return Message::Bad;
-    }
-    let level = number_at(message, 1);
-    let id = value_at(message, 2);
     let number = number_at(message, 5);
-    let count = run.end - at;
-    Message::Composition {
+    let count = end - at;
+    Some(Message::Composition {
         session,
         level,
         id,
@@ -113,82 +113,61 @@ fn composition(message: &[u8], session: u64) -> Message
         number,
         at,
         count,
-    }
+    })
 }
 
 // The opening that stands in the message, if it is well formed.
+#[tactic(auto, unfolding(crate::specs::Reading::opening_by_places))]
 fn opening_at(message: &[u8], session: u64) -> Message
     ensures { (meant (link_words message.now) result ≡ some (opening_by_places (link_words message.now) session)) × Placed result × Counted (link_words message.now) result }
 {
-    let rule = number_at(message, 1);
-    let w = number_at(message, 2);
-    let p = number_at(message, 3);
-    let levels = number_at(message, 4);
-    let m = number_at(message, 5);
-    let q = number_at(message, 6);
-    let length = number_at(message, 7);
-    let root = value_at(message, 8);
     Message::Opening {
         session,
-        rule,
-        w,
-        p,
-        levels,
-        m,
-        q,
-        length,
-        root,
+        rule: number_at(message, 1),
+        w: number_at(message, 2),
+        p: number_at(message, 3),
+        levels: number_at(message, 4),
+        m: number_at(message, 5),
+        q: number_at(message, 6),
+        length: number_at(message, 7),
+        root: value_at(message, 8),
         at: 11,
     }
 }
 
-fn opening(message: &[u8], session: u64) -> Message
-    ensures { ReadsBody message.now session 3 result }
+#[tactic(auto, using(crate::proofs::Answers::number_below, crate::proofs::Answers::opening_no_numbers, crate::proofs::Answers::opening_no_root, crate::proofs::Answers::opening_no_cells, crate::proofs::Answers::opening_no_end, crate::proofs::Answers::opening_read))]
+fn opening(message: &[u8], session: u64) -> Option<Message>
+    ensures { ReadsBody message.now session 3 (or_bad result) }
 {
-    if !seven_numbers(message) {
-        return Message::Bad;
-    }
-    if !is_value(message, 8) {
-        return Message::Bad;
+    if !seven_numbers(message) || !is_value(message, 8) {
+        return None;
     }
     let q = number_at(message, 6);
     let values = (q * 3 * 5) as usize;
-    if !are_values(message, 11, values) {
-        return Message::Bad;
+    if !are_values(message, 11, values) || !is_end(message, 11 + values * 3) {
+        return None;
     }
-    let end = 11 + values * 3;
-    if !is_end(message, end) {
-        return Message::Bad;
-    }
-    opening_at(message, session)
+    Some(opening_at(message, session))
 }
 
 // What follows the head, by the type.
-fn body(message: &[u8], form: u64, session: u64) -> Message
-    ensures { ReadsBody message.now session form result }
+#[tactic(auto, using(crate::proofs::Answers::no_type))]
+fn body(message: &[u8], form: u64, session: u64) -> Option<Message>
+    ensures { ReadsBody message.now session form (or_bad result) }
 {
-    if form == 1 {
-        return opening_query(message, session);
+    match form {
+        1 => opening_query(message, session),
+        2 => node_query(message, session),
+        3 => opening(message, session),
+        4 => composition(message, session),
+        5 => literal(message, session),
+        6 => no_node(message, session),
+        _ => None,
     }
-    if form == 2 {
-        return node_query(message, session);
-    }
-    if form == 3 {
-        return opening(message, session);
-    }
-    if form == 4 {
-        return composition(message, session);
-    }
-    if form == 5 {
-        return literal(message, session);
-    }
-    if form == 6 {
-        return no_node(message, session);
-    }
-    Message::Bad
 }
 
 // Reads a message. Question 10 is answered by `Bad`; any other answer is what the message says.
+#[tactic(auto, using(crate::proofs::Answers::read_not_whole, crate::proofs::Answers::read_no_head, crate::proofs::Answers::read_whole))]
 pub fn read(message: &[u8]) -> Message
     ensures { Reads message.now result }
 {
@@ -196,11 +175,11 @@ pub fn read(message: &[u8]) -> Message
         return Message::Bad;
     }
     let w = load(message, 0);
-    if kind(w) != 1 {
+    if !is_of(w, Kind::Head) {
         return Message::Bad;
     }
     let x = rest(w);
-    body(message, x / 16777216, x % 16777216)
+    body(message, x / SESSIONS, x % SESSIONS).unwrap_or(Message::Bad)
 }
 
 // The number of an answer.
@@ -208,13 +187,13 @@ fn number_of(m: Message) -> u64
     ensures { result ≡ number_of m }
 {
     match m {
-        Message::Bad => 10,
-        Message::OpeningQuery { .. } => 4294967297,
-        Message::NodeQuery { .. } => 4294967298,
-        Message::Opening { .. } => 4294967299,
-        Message::Composition { .. } => 4294967300,
-        Message::Literal { .. } => 4294967301,
-        Message::NoNode { .. } => 4294967302,
+        Message::Bad => BAD,
+        Message::OpeningQuery { .. } => WELL_FORMED + 1,
+        Message::NodeQuery { .. } => WELL_FORMED + 2,
+        Message::Opening { .. } => WELL_FORMED + 3,
+        Message::Composition { .. } => WELL_FORMED + 4,
+        Message::Literal { .. } => WELL_FORMED + 5,
+        Message::NoNode { .. } => WELL_FORMED + 6,
     }
 }
 
@@ -233,14 +212,12 @@ pub struct Reference {
 }
 
 // Value k of the cells that start at word `at`, five values a cell; 0 past the message's end.
+#[tactic(auto, using(crate::proofs::Parts::cell_read))]
 pub fn cell_value(message: &[u8], at: usize, k: usize) -> u64
     ensures { CellRead message.now at k result }
 {
     let count = message.len() / 4;
-    if count <= at {
-        return 0;
-    }
-    if count <= k {
+    if count <= at || count <= k {
         return 0;
     }
     value_at(message, at + k * 3)
@@ -251,10 +228,7 @@ pub fn reference_at(message: &[u8], at: usize, k: usize) -> Reference
     ensures { ReferenceRead message.now at k (record { index = result.index; count = result.count }) }
 {
     let words = message.len() / 4;
-    if words <= at {
-        return Reference { index: 0, count: 0 };
-    }
-    if words <= k {
+    if words <= at || words <= k {
         return Reference { index: 0, count: 0 };
     }
     let x = rest(load(message, at + k));
@@ -263,21 +237,12 @@ pub fn reference_at(message: &[u8], at: usize, k: usize) -> Reference
     Reference { index, count }
 }
 
-fn least(a: usize, b: usize) -> usize
-    ensures { result ≡ min a b }
-{
-    if a < b { a } else { b }
-}
-
 // How many bytes the words from `at` on can carry.
+#[tactic(auto, using(crate::proofs::Parts::room_is))]
 fn room(message: &[u8], at: usize) -> usize
     ensures { result ≡ length (three_each (drop at (link_words message.now))) }
 {
-    let count = message.len() / 4;
-    if count <= at {
-        return 0;
-    }
-    (count - at) * 3
+    (message.len() / 4).saturating_sub(at) * 3
 }
 
 // Byte j of those that start at word `at`: each word has three, after its first byte.
@@ -293,11 +258,8 @@ fn byte_at(message: &[u8], at: usize, j: usize) -> u8
 pub fn copy_bytes(message: &[u8], at: usize, count: usize, part: &mut [u8])
     ensures { Copied message.now at count part.old part.new }
 {
-    let end = least(least(count, part.len()), room(message, at));
-    let mut j = 0;
-    while j < end {
-        let b = byte_at(message, at, j);
-        part[j] = b;
-        j += 1;
+    let end = count.min(part.len()).min(room(message, at));
+    for j in 0..end {
+        part[j] = byte_at(message, at, j);
     }
 }

@@ -1,18 +1,11 @@
 // Runs of words of one kind: numbers, 64-bit values, references, the bytes of a literal. Each is read once, from the left.
-ghost use Rattle.std.specs.Prelude.{◌≡◌, ◌+◌, ◌*◌, ◌^◌, ◌<◌, false, get_or, drop};
+ghost use Rattle.std.specs.Prelude.{MatchOption, ◌≡◌, ◌+◌, ◌*◌, ◌^◌, ◌<◌, false, get_or, drop};
 ghost use Rattle.message.specs.Words.{link_words, carries_three_bytes};
 ghost use Rattle.message.specs.Fields.{values_are};
-ghost use Rattle.message.specs.Reading.{numbers_are, References, Threes, Texts};
+ghost use Rattle.message.specs.Reading.{numbers_are, Falls, References, Threes, Texts};
 
 use crate::field::{is_number, is_value};
-use crate::word::{carries_one, carries_three, carries_two, is_reference, load, rest};
-
-// Where a run of references ends, if it rises by index.
-#[derive(Clone, Copy)]
-pub struct Run {
-    pub sound: bool,
-    pub end: usize,
-}
+use crate::word::{carried, is_reference, load, rest};
 
 // Where the words of a literal end, and how many bytes they carry.
 #[derive(Clone, Copy)]
@@ -25,14 +18,7 @@ pub struct Text {
 pub fn seven_numbers(message: &[u8]) -> bool
     ensures { result ≡ numbers_are (link_words message.now) 1 7 }
 {
-    let mut k = 1;
-    while k < 8 {
-        if !is_number(message, k) {
-            return false;
-        }
-        k += 1;
-    }
-    true
+    (1..8).all(|k| is_number(message, k))
 }
 
 // Whether `count` 64-bit values stand from word `at` on.
@@ -40,46 +26,27 @@ pub fn are_values(message: &[u8], at: usize, count: usize) -> bool
     requires { at + count * 3 < 2 ^ 63 }
     ensures { result ≡ values_are count (drop at (link_words message.now)) }
 {
-    let mut k = at;
-    let mut left = count;
-    while 0 < left {
-        if !is_value(message, k) {
-            return false;
-        }
-        k += 3;
-        left -= 1;
-    }
-    true
+    (0..count).all(|k| is_value(message, at + k * 3))
 }
 
-// The run of references from word `at` on. An index that is not above the one before it ends it.
-pub fn reference_run(message: &[u8], at: usize) -> Run
-    ensures { References (link_words message.now) at result.sound result.end }
+// Where the run of references from word `at` on ends. An index that is not above the one before it makes it none.
+pub fn reference_run(message: &[u8], at: usize) -> Option<usize>
+    ensures { MatchOption result (Falls (link_words message.now) at) (λ end. References (link_words message.now) at end) }
 {
-    let mut least: u64 = 0;
-    let mut k = at;
-    while k < message.len() / 4 {
+    let words = message.len() / 4;
+    let mut least = 0;
+    for k in at..words {
         let w = load(message, k);
         if !is_reference(w) {
-            return Run {
-                sound: true,
-                end: k,
-            };
+            return Some(k);
         }
         let index = rest(w) / 64;
         if index < least {
-            return Run {
-                sound: false,
-                end: k,
-            };
+            return None;
         }
         least = index + 1;
-        k += 1;
     }
-    Run {
-        sound: true,
-        end: k,
-    }
+    Some(at.max(words))
 }
 
 // The first word from `at` on that does not carry three bytes.
@@ -87,14 +54,13 @@ fn threes(message: &[u8], at: usize) -> usize
     ensures run { Threes (link_words message.now) at result }
     ensures stops { carries_three_bytes (get_or (link_words message.now) result 0) ≡ false }
 {
-    let mut k = at;
-    while k < message.len() / 4 {
-        if !carries_three(load(message, k)) {
+    let words = message.len() / 4;
+    for k in at..words {
+        if carried(load(message, k)) < 3 {
             return k;
         }
-        k += 1;
     }
-    k
+    at.max(words)
 }
 
 // The words of a literal from word `at` on: those with three bytes, and then at most one with fewer.
@@ -103,30 +69,14 @@ pub fn text_run(message: &[u8], at: usize) -> Text
 {
     let k = threes(message, at);
     let full = (k - at) * 3;
-    if message.len() / 4 <= k {
-        return Text {
+    match carried(load(message, k)) {
+        0 => Text {
             end: k,
             count: full,
-        };
-    }
-    let w = load(message, k);
-    let next = k + 1;
-    if carries_two(w) {
-        let two_more = full + 2;
-        return Text {
-            end: next,
-            count: two_more,
-        };
-    }
-    if carries_one(w) {
-        let one_more = full + 1;
-        return Text {
-            end: next,
-            count: one_more,
-        };
-    }
-    Text {
-        end: k,
-        count: full,
+        },
+        more => Text {
+            end: k + 1,
+            count: full + more,
+        },
     }
 }

@@ -1,14 +1,13 @@
 // The 32-bit words of a message, most significant byte first, and what stands in one word.
-ghost use Rattle.std.specs.Prelude.{◌≡◌, get_or};
-ghost use Rattle.message.specs.Words.{word_of, link_words, kind_of, rest_of, carries_three_bytes, carries_two_bytes, carries_one_byte, reference_word};
+ghost use Rattle.std.specs.Prelude.{◌≡◌, eqb, get_or};
+ghost use Rattle.message.specs.Words.{link_words, kind_of, rest_of, carried_by, reference_word};
+ghost use Rattle.message.specs.Kinds.{number_of_kind};
 ghost use Rattle.message.specs.Fields.{parts_test, parts_value};
 
-// Four bytes as one word, a the most significant.
-fn join(a: u8, b: u8, c: u8, d: u8) -> u64
-    ensures { result ≡ word_of a b c d }
-{
-    ((a as u64 * 256 + b as u64) * 256 + c as u64) * 256 + d as u64
-}
+use crate::kind::Kind;
+
+// What the kind of a word weighs: it stands above the 28 bits that say the rest.
+const KIND_WEIGHT: u64 = 268435456;
 
 // Word k of the message, or 0 where it has no such word.
 pub fn load(message: &[u8], k: usize) -> u64
@@ -18,101 +17,64 @@ pub fn load(message: &[u8], k: usize) -> u64
         return 0;
     }
     let i = k * 4;
-    join(message[i], message[i + 1], message[i + 2], message[i + 3])
+    let word = u32::from_be_bytes([message[i], message[i + 1], message[i + 2], message[i + 3]]);
+    u64::from(word)
 }
 
-// The kind of a word: its top 4 bits.
-pub fn kind(w: u64) -> u64
-    ensures { result ≡ kind_of w }
+// Whether the word is of that kind: its top 4 bits.
+pub fn is_of(w: u64, kind: Kind) -> bool
+    ensures { result ≡ eqb (kind_of w) (number_of_kind kind) }
 {
-    w / 268435456
+    w / KIND_WEIGHT == kind as u64
 }
 
 // The other 28 bits of a word.
 pub fn rest(w: u64) -> u64
     ensures { result ≡ rest_of w }
 {
-    w % 268435456
+    w % KIND_WEIGHT
 }
 
 // Whether the word is a reference with its fixed bits 0 and a count from 1 to 32.
+#[tactic(auto, using(std::proofs::lemmas::Bool::Decides::nat_tests), unfolding(crate::specs::Words::reference_word))]
 pub fn is_reference(w: u64) -> bool
     ensures { result ≡ reference_word.is w }
 {
     let x = rest(w);
-    if kind(w) != 4 {
-        return false;
-    }
-    if 4096 <= x / 64 {
-        return false;
-    }
-    if x % 64 == 0 {
-        return false;
-    }
-    x % 64 < 33
+    let index = x / 64;
+    let count = x % 64;
+    is_of(w, Kind::Reference) && index < 4096 && (1..=32).contains(&count)
 }
 
-// Whether the word carries three bytes of a literal.
-pub fn carries_three(w: u64) -> bool
-    ensures { result ≡ carries_three_bytes w }
+// How many bytes of a literal the word carries, from 1 to 3, where those that it does not use are 0; and 0 for any other word.
+#[tactic(auto, using(crate::proofs::Words::carried_is, std::proofs::lemmas::Bool::Decides::nat_tests))]
+pub fn carried(w: u64) -> usize
+    ensures { result ≡ carried_by w }
 {
+    if !is_of(w, Kind::Bytes) {
+        return 0;
+    }
     let x = rest(w);
-    if kind(w) != 5 {
-        return false;
+    // The number of bytes stands above the three of them.
+    match x / 16777216 {
+        3 => 3,
+        2 if x % 256 == 0 => 2,
+        1 if x % 65536 == 0 => 1,
+        _ => 0,
     }
-    x / 256 / 256 / 256 == 3
-}
-
-// Whether the word carries two bytes of a literal, and then a 0.
-pub fn carries_two(w: u64) -> bool
-    ensures { result ≡ carries_two_bytes w }
-{
-    let x = rest(w);
-    if kind(w) != 5 {
-        return false;
-    }
-    if x / 256 / 256 / 256 != 2 {
-        return false;
-    }
-    x % 256 == 0
-}
-
-// Whether the word carries one byte of a literal, and then two bytes 0.
-pub fn carries_one(w: u64) -> bool
-    ensures { result ≡ carries_one_byte w }
-{
-    let x = rest(w);
-    if kind(w) != 5 {
-        return false;
-    }
-    if x / 256 / 256 / 256 != 1 {
-        return false;
-    }
-    if x / 256 % 256 != 0 {
-        return false;
-    }
-    x % 256 == 0
 }
 
 // Whether the words are the three parts of a 64-bit value, the first at most 255.
+#[tactic(auto, using(std::proofs::lemmas::Bool::Decides::nat_tests), unfolding(crate::specs::Fields::parts_test, crate::specs::Words::plain))]
 pub fn are_parts(top: u64, middle: u64, low: u64) -> bool
     ensures { result ≡ parts_test top middle low }
 {
-    if kind(top) != 3 {
-        return false;
-    }
-    if kind(middle) != 3 {
-        return false;
-    }
-    if kind(low) != 3 {
-        return false;
-    }
-    rest(top) < 256
+    is_of(top, Kind::Part) && is_of(middle, Kind::Part) && is_of(low, Kind::Part) && rest(top) < 256
 }
 
 // The 64-bit value whose top 8, middle 28 and low 28 bits stand in the three words.
 pub fn join_parts(top: u64, middle: u64, low: u64) -> u64
     ensures { result ≡ parts_value top middle low }
 {
-    (top % 256 * 268435456 + middle % 268435456) * 268435456 + low % 268435456
+    (top % 256 * KIND_WEIGHT + middle % KIND_WEIGHT) * KIND_WEIGHT + low % KIND_WEIGHT
 }

@@ -1,2 +1,3 @@
 -- Laws of writing messages.
 pub mod Writing
+pub mod Codes

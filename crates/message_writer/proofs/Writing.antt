@@ -1,25 +1,37 @@
 -- Laws of writing: words stored one after the other are one row of words stored, and a whole message stored is a message written.
-use mathlib.Core.Bool.{Bool, true, false}
-use mathlib.Core.List.{List, [], ◌∷◌, ◌++◌, append-nil}
-use mathlib.Core.Path.{◌≡◌, refl, sym, ap, ◌∙◌}
-use Prim.Native.Nat.{ℕ, zero, suc, ◌+◌, ◌*◌, ◌-◌, ◌/◌, ◌%◌, ◌^◌, ◌≤◌, ◌<◌, min}
-use native.Mathlib.Nat.{add-zero, sub-zero}
-use native.Mathlib.Numerals.{add-one, towards_suc}
-use native.Mathlib.Omega.{arith}
-use borrow.Author.Tests.{le-leb, lt-leb}
-use lib.ListN.{length, get_or, set, drop, length-append, drop_of_length-le}
-use lib.Seq.{sets, length-sets, sets-eq, drop-cons}
-use Rattle.message.specs.Words.{link_bytes, bytes_of, with_kind, plain, head_word, end_word, reference_word, word_of_bytes, word_of}
+use Rattle.std.proofs.Common.{Bool, true, false, List, [], ◌∷◌, ◌++◌, append-nil, ◌≡◌, refl, sym, ap, ◌∙◌, ℕ, zero, suc, ◌+◌, ◌*◌, ◌-◌, ◌/◌, ◌%◌, ◌^◌, ◌≤◌, ◌<◌, min, add-zero, add-one, arith, le-leb, length, get_or, set, drop, length-append, drop_of_length-le, drop-cons}
+use Rattle.std.proofs.Math.Nat.{sub-zero}
+use Rattle.std.proofs.Math.Numerals.{towards_suc}
+use Rattle.std.proofs.Math.Decide.{dec_le}
+use Rattle.std.proofs.lemmas.Bool.{lt-leb}
+use Rattle.std.proofs.Math.Seq.{sets, length-sets, sets-eq}
+use borrow.Rule.Slice.PartMut.{put_mid}
+use Rattle.std.specs.Int.{w32, to_be_bytes}
+use Rattle.std.proofs.lemmas.Slice.{put_mid-paste}
+use Rattle.message.specs.Words.{link_bytes, bytes_of, with_kind, plain, head_word, end_word, reference_word, word_of_bytes}
 use Rattle.message.specs.Fields.{one, number, head, value, values, text_to, text, values_to, many_to, many, maybe_to, maybe, maybe_number, only}
 use Rattle.message.specs.Messages.{Msg, opening_query, node_query, opening, composition, literal, no_node, headed, words_then, size_of, encode_words, encode}
 use Rattle.message.specs.Reading.{stated_by, references_at}
 use Rattle.message.proofs.Words.{length_bytes}
 use Rattle.message.proofs.Messages.{length-encode, length_encode_words}
-use Rattle.message_writer.specs.Writing.{Written, Stored, first_rows, paired}
+use Rattle.message_writer.specs.Writing.{Written, pair_bytes, Stored, first_rows, paired}
 
 pub stored_word : (b : List ℕ) (k w : ℕ) → Stored b (sets b (k * 4) (bytes_of w)) k (w ∷ [])
 unfolding link_bytes
 stored_word b k w = record { same = length-sets b (k * 4) (bytes_of w); bytes = λ h. refl }
+
+-- The code's four bytes of a word are the word's.
+be_bytes : (w : ℕ) → to_be_bytes w32 w ≡ bytes_of w
+be_bytes w =
+    let top : w / 16777216 % 256 ≡ w / 256 / 256 / 256 % 256 = omega arith in
+    let next : w / 65536 % 256 ≡ w / 256 / 256 % 256 = omega arith in
+    cc
+
+pub stored_bytes : (b new : List ℕ) (k w : ℕ) → k < length b / 4 → new ≡ to_be_bytes w32 w → Stored b (put_mid (k * 4) (k * 4 + 4 - k * 4) b new) k (w ∷ [])
+stored_bytes b new k w h e =
+    let is : put_mid (k * 4) (k * 4 + 4 - k * 4) b new ≡ sets b (k * 4) (bytes_of w) =
+    put_mid-paste (k * 4) (k * 4 + 4 - k * 4) b new (bytes_of w) 4 (e ∙ be_bytes w) (omega arith) refl ∙ sym (sets-eq (bytes_of w) b (k * 4) (omega arith)) in
+    rw is (stored_word b k w)
 
 pub stored_out : (b : List ℕ) (k w : ℕ) → length b / 4 ≤ k → Stored b b k (w ∷ [])
 stored_out b k w h = record { same = refl; bytes = λ f. absurd (omega arith) }
@@ -61,42 +73,39 @@ written_full m b h =
     let no = lt-leb (length (encode m)) (length b) (omega arith) in
     record { answer_is = rw no; buffer_is = rw no }
 
+words_fit : (ws b b' : List ℕ) (n : ℕ) → n ≡ length ws → n ≤ length b / 4 → Stored b b' 0 ws → Written b b' (link_bytes ws) (2 ^ 32 + n * 4)
+words_fit ws b b' n e h p =
+    let long = length_bytes ws in
+    let yes = le-leb (length (link_bytes ws)) (length b) (omega arith) in
+    let put = p.bytes (omega arith) ∙ sets-eq (link_bytes ws) b 0 (omega arith) in
+    record {
+      answer_is = rw yes (omega arith);
+      buffer_is = rw yes (put ∙ ap (λ (k : ℕ). link_bytes ws ++ drop k b) {x = 0 + length (link_bytes ws)} {y = length (link_bytes ws)} (omega arith));
+    }
+
 pub written_fit : (m : Msg) (b b' : List ℕ) (n : ℕ) → n ≡ size_of m → n ≤ length b / 4 → Stored b b' 0 (encode_words m)
     → Written b b' (encode m) (2 ^ 32 + n * 4)
 unfolding encode
-written_fit m b b' n e h p =
-    let long = length-encode m in
-    let words = length_encode_words m in
-    let yes = le-leb (length (encode m)) (length b) (omega arith) in
-    let put = p.bytes (omega arith) ∙ sets-eq (link_bytes (encode_words m)) b 0 (omega arith) in
-    record {
-      answer_is = rw yes (omega arith);
-      buffer_is = rw yes (put ∙ ap (λ (k : ℕ). link_bytes (encode_words m) ++ drop k b) {x = 0 + length (link_bytes (encode_words m))} {y = length (link_bytes (encode_words m))} (omega arith));
-    }
+written_fit m b b' n e h p = words_fit (encode_words m) b b' n (e ∙ sym (length_encode_words m)) h p
 
 -- The words of a field.
-pub number_stored : {b b' : List ℕ} {k : ℕ} (x : ℕ) → Stored b b' k ((2 * 2 ^ 28 + x % 2 ^ 28) ∷ []) → Stored b b' k (number.to x)
-unfolding one plain with_kind
-number_stored x p = p
+pub number_stored : {b b' : List ℕ} {k w : ℕ} (x : ℕ) → w ≡ with_kind 2 x → Stored b b' k (w ∷ []) → Stored b b' k (number.to x)
+unfolding one plain
+number_stored x e p = rw (← e) p
 
-pub end_stored : {b b' : List ℕ} {k : ℕ} (n : ℕ) → Stored b b' k ((6 * 2 ^ 28 + n % 2 ^ 28) ∷ []) → Stored b b' k (end_word n ∷ [])
-unfolding end_word with_kind
-end_stored n p = p
+pub end_stored : {b b' : List ℕ} {k w : ℕ} (n : ℕ) → w ≡ with_kind 6 n → Stored b b' k (w ∷ []) → Stored b b' k (end_word n ∷ [])
+unfolding end_word
+end_stored n e p = rw (← e) p
 
-pub head_stored : {b b' : List ℕ} (t n : ℕ) → t < 16 → Stored b b' 0 ((2 ^ 28 + (t * 2 ^ 24 + n % 2 ^ 24)) ∷ [])
+pub head_stored : {b b' : List ℕ} {w : ℕ} (t n : ℕ) → w ≡ with_kind 1 (t * 2 ^ 24 + n % 2 ^ 24) → Stored b b' 0 (w ∷ [])
     → Stored b b' 0 (head.to (record { type = t; session = n }))
-unfolding one head_word with_kind
-head_stored t n h p =
-    let e : 2 ^ 28 + (t * 2 ^ 24 + n % 2 ^ 24) ≡ 1 * 2 ^ 28 + (t * 2 ^ 24 + n % 2 ^ 24) % 2 ^ 28 = omega arith in
-    rw (← e) p
+unfolding one head_word
+head_stored t n e p = rw (← e) p
 
-pub value_stored : {b b₁ b₂ b₃ : List ℕ} {k : ℕ} (x : ℕ)
-    → Stored b b₁ k ((3 * 2 ^ 28 + x / 2 ^ 28 / 2 ^ 28 % 2 ^ 28) ∷ [])
-    → Stored b₁ b₂ (k + 1) ((3 * 2 ^ 28 + x / 2 ^ 28 % 2 ^ 28) ∷ [])
-    → Stored b₂ b₃ (k + 2) ((3 * 2 ^ 28 + x % 2 ^ 28) ∷ [])
-    → Stored b b₃ k (value.to x)
-unfolding value plain with_kind
-value_stored {k = k} x p q r = after (k + 2) (omega arith) (after (k + 1) (omega arith) p q) r
+pub value_stored : {b b₁ b₂ b₃ : List ℕ} {k u v w : ℕ} (x : ℕ) → u ≡ with_kind 3 (x / 2 ^ 28 / 2 ^ 28) → v ≡ with_kind 3 (x / 2 ^ 28) → w ≡ with_kind 3 x
+    → Stored b b₁ k (u ∷ []) → Stored b₁ b₂ (k + 1) (v ∷ []) → Stored b₂ b₃ (k + 2) (w ∷ []) → Stored b b₃ k (value.to x)
+unfolding value plain
+value_stored {k = k} x eu ev ew p q r = rw (← eu, ← ev, ← ew) (after (k + 2) (omega arith) (after (k + 1) (omega arith) p q) r)
 
 pub pair_stored : {b b₁ b₂ b₃ : List ℕ} (t n l i : ℕ) → Stored b b₁ 0 (head.to (record { type = t; session = n })) → Stored b₁ b₂ 1 (number.to l)
     → Stored b₂ b₃ 2 (value.to i) → Stored b b₃ 0 (headed t n (number.to l ++ value.to i))
@@ -120,10 +129,6 @@ pub filled_done : {b₀ b : List ℕ} {from k : ℕ} {todo all : List ℕ} → t
 filled_done {b = b} {k = k} e f = f.rest b (rw e (stored_none b k))
 
 -- The bytes of a text.
-pub bytes_word_is : (many a b c : ℕ) → many < 4 → a < 256 → b < 256 → c < 256 → 5 * 2 ^ 28 + word_of many a b c ≡ word_of_bytes many a b c
-unfolding word_of_bytes with_kind
-bytes_word_is many a b c hm ha hb hc = omega arith
-
 module _ (text : List ℕ) (i r : ℕ) where
   pub one_left : length text - i ≡ 1 → r ≡ word_of_bytes 1 (get_or text i 0) 0 0 → text_to (drop i text) ≡ r ∷ text_to (drop (i + 3) text)
   unfolding text_to
@@ -187,36 +192,33 @@ length_rows (suc count) i rows =
     length-append (value.to (get_or rows i 0)) _ ∙ omega (arith, length-value (get_or rows i 0))
 
 -- References.
-pub reference_more : (indexes counts : List ℕ) (i x y : ℕ) → i < length indexes → i < length counts → x ≡ get_or indexes i 0 → y ≡ get_or counts i 0
-    → many_to reference_word (paired (drop i indexes) (drop i counts))
-    ≡ (4 * 2 ^ 28 + (x % 2 ^ 28 * 64 + y % 2 ^ 28) % 2 ^ 28) ∷ many_to reference_word (paired (drop (i + 1) indexes) (drop (i + 1) counts))
+pub reference_more : (indexes counts : List ℕ) (i w : ℕ) → i < min (length indexes) (length counts)
+    → w ≡ with_kind 4 (get_or indexes i 0 % 2 ^ 28 * 64 + get_or counts i 0 % 2 ^ 28)
+    → many_to reference_word (paired (drop i indexes) (drop i counts)) ≡ w ∷ many_to reference_word (paired (drop (i + 1) indexes) (drop (i + 1) counts))
 unfolding many_to paired reference_word with_kind
-reference_more indexes counts i x y h l ex ey =
-    let e : 4 * 2 ^ 28 + (x * 64 + y) % 2 ^ 28 ≡ 4 * 2 ^ 28 + (x % 2 ^ 28 * 64 + y % 2 ^ 28) % 2 ^ 28 = omega arith in
-    rw (drop-cons indexes i 0 h, drop-cons counts i 0 l, ← ex, ← ey, e, add-one i)
+reference_more indexes counts i w h is =
+    let x = get_or indexes i 0 in
+    let y = get_or counts i 0 in
+    let e : with_kind 4 (x * 64 + y) ≡ w = omega arith in
+    rw (drop-cons indexes i 0 (omega arith), drop-cons counts i 0 (omega arith), e, add-one i)
 
-pub no_more_counts : (indexes counts : List ℕ) (i : ℕ) → i < length indexes → length counts ≤ i → many_to reference_word (paired (drop i indexes) (drop i counts)) ≡ []
+pub no_more : (indexes counts : List ℕ) (i : ℕ) → min (length indexes) (length counts) ≤ i → many_to reference_word (paired (drop i indexes) (drop i counts)) ≡ []
 unfolding many_to paired
-no_more_counts indexes counts i h l = rw (drop-cons indexes i 0 h, drop_of_length-le counts {i = i} l)
-
-pub no_more_indexes : (indexes counts : List ℕ) (i : ℕ) → length indexes ≤ i → many_to reference_word (paired (drop i indexes) (drop i counts)) ≡ []
-unfolding many_to paired
-no_more_indexes indexes counts i h = rw (drop_of_length-le indexes {i = i} h)
+no_more indexes counts i h = elim (dec_le (length indexes) i) [
+  | yes out ↦ rw (drop_of_length-le indexes {i = i} out)
+  | no here ↦ rw (drop-cons indexes i 0 (omega arith), drop_of_length-le counts {i = i} (omega arith))
+]
 
 pub filled_start : (b : List ℕ) (from count : ℕ) (rows : List ℕ)
-    → Filled b b from from (values_to (first_rows (count - 0) 0 rows)) (values_to (first_rows count 0 rows))
-filled_start b from count rows =
-    record {
-      same = refl;
-      rest = λ end p. rw (← sub-zero count) p;
-    }
+    → Filled b b from (from + 0 * 3) (values_to (first_rows (count - 0) 0 rows)) (values_to (first_rows count 0 rows))
+filled_start b from count rows = rw (add-zero from, sub-zero count) (filled_none b from (values_to (first_rows count 0 rows)))
 
-pub filled_row : (b₀ b b' : List ℕ) (from count i : ℕ) (rows : List ℕ) {k x : ℕ} → i < count → x ≡ get_or rows i 0 → {j : ℕ} → j ≡ k + 3
-    → Filled b₀ b from k (values_to (first_rows (count - i) i rows)) (values_to (first_rows count 0 rows)) → Stored b b' k (value.to x)
-    → Filled b₀ b' from j (values_to (first_rows (count - (i + 1)) (i + 1) rows)) (values_to (first_rows count 0 rows))
-filled_row b₀ b b' from count i rows {k} {x} h e {j} n f p =
-    filled_more j (row_more count i rows h ∙ ap (λ (y : ℕ). value.to y ++ values_to (first_rows (count - (i + 1)) (i + 1) rows)) (sym e))
-    (n ∙ ap (λ (m : ℕ). k + m) (sym (length-value x))) f p
+pub filled_row : (b₀ b b' : List ℕ) (from count i : ℕ) (rows : List ℕ) {x : ℕ} → i < count → x ≡ get_or rows i 0
+    → Filled b₀ b from (from + i * 3) (values_to (first_rows (count - i) i rows)) (values_to (first_rows count 0 rows)) → Stored b b' (from + i * 3) (value.to x)
+    → Filled b₀ b' from (from + (i + 1) * 3) (values_to (first_rows (count - (i + 1)) (i + 1) rows)) (values_to (first_rows count 0 rows))
+filled_row b₀ b b' from count i rows {x} h e f p =
+    filled_more (from + (i + 1) * 3)
+    (row_more count i rows h ∙ ap (λ (y : ℕ). value.to y ++ values_to (first_rows (count - (i + 1)) (i + 1) rows)) (sym e)) (omega (arith, length-value x)) f p
 
 pub filled_first : (b : List ℕ) (from : ℕ) (all : List ℕ) → Filled b b from (from + 0) all all
 filled_first b from all = rw (add-zero from) (filled_none b from all)
@@ -231,22 +233,30 @@ pub opening_query_stored : {b b₁ b₂ : List ℕ} (n : ℕ) → Stored b b₁ 
 unfolding encode_words size_of words_then headed one
 opening_query_stored n p q = after 1 refl p q
 
+-- A message that says only a node's level and id.
 module _ (n l i : ℕ) where
-  pub node_query_size : 6 ≡ size_of (node_query n l i)
-  unfolding size_of words_then headed one value
-  node_query_size = refl
+  pub pair_size : (t : ℕ) → length (pair_bytes t n l i) ≡ 24
+  unfolding pair_bytes headed one value
+  pair_size t = length_bytes _
 
-  pub none_size : 6 ≡ size_of (no_node n l i)
-  unfolding size_of words_then headed one value
-  none_size = refl
+  pub pair_written : {b b₁ b₂ : List ℕ} (t : ℕ) → 6 ≤ length b / 4 → Stored b b₁ 0 (headed t n (number.to l ++ value.to i))
+      → Stored b₁ b₂ 5 (end_word 6 ∷ []) → Written b b₂ (pair_bytes t n l i) (2 ^ 32 + 24)
+  unfolding pair_bytes headed one value
+  pair_written t h p q = words_fit _ _ _ 6 refl h (after 5 refl p q)
 
-  pub node_query_stored : {b b₁ b₂ : List ℕ} → Stored b b₁ 0 (headed 2 n (number.to l ++ value.to i)) → Stored b₁ b₂ 5 (end_word 6 ∷ []) → Stored b b₂ 0 (encode_words (node_query n l i))
-  unfolding encode_words size_of words_then headed one value
-  node_query_stored p q = after 5 refl p q
+  pub pair_full : (b : List ℕ) (t : ℕ) → length b / 4 < 6 → Written b b (pair_bytes t n l i) 20
+  pair_full b t h =
+      let long = pair_size t in
+      let no = lt-leb (length (pair_bytes t n l i)) (length b) (omega arith) in
+      record { answer_is = rw no; buffer_is = rw no }
 
-  pub none_stored : {b b₁ b₂ : List ℕ} → Stored b b₁ 0 (headed 6 n (number.to l ++ value.to i)) → Stored b₁ b₂ 5 (end_word 6 ∷ []) → Stored b b₂ 0 (encode_words (no_node n l i))
-  unfolding encode_words size_of words_then headed one value
-  none_stored p q = after 5 refl p q
+  pub pair_node_query : pair_bytes 2 n l i ≡ encode (node_query n l i)
+  unfolding pair_bytes encode encode_words size_of words_then headed one value
+  pair_node_query = refl
+
+  pub pair_no_node : pair_bytes 6 n l i ≡ encode (no_node n l i)
+  unfolding pair_bytes encode encode_words size_of words_then headed one value
+  pair_no_node = refl
 
 pub literal_size : (n l i : ℕ) (bytes : List ℕ) → (length bytes + 2) / 3 + 6 ≡ size_of (literal n l i bytes)
 unfolding size_of words_then headed one value text

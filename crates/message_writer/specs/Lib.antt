@@ -1,2 +1,3 @@
 -- What the writers promise.
 pub mod Writing
+pub mod Forms

@@ -4,73 +4,81 @@
 
 mod put;
 
-ghost use Rattle.std.specs.Prelude.{◌≡◌, ◌*◌, min};
+ghost use Rattle.std.specs.Prelude.{◌≡◌, ◌*◌};
 ghost use Rattle.message.specs.Messages.{encode, opening_query, node_query, opening, composition, literal, no_node};
 ghost use Rattle.message.specs.Reading.{stated_by};
 ghost use Rattle.rows.specs.Rows.{words_of};
-ghost use Rattle.message_writer.specs.Writing.{Written, first_rows, paired};
+ghost use Rattle.message_writer.specs.Writing.{Written, pair_bytes, first_rows, paired};
+ghost use Rattle.message_writer.specs.Forms.{number_of_form};
 
 use message::reader::references_from;
 use put::{
-    put_end, put_front, put_head, put_middle, put_pair, put_references, put_text, put_trail_number,
-    put_values,
+    Form, put_end, put_front, put_head, put_middle, put_pair, put_references, put_text,
+    put_trail_number, put_values,
 };
+
+// Question 20's number: the message does not fit.
+const FULL: u64 = 20;
+
+// What stands above the number of bytes written.
+const WRITTEN: u64 = 4294967296;
+
+// The words of three cells: five values each, three words a value.
+const THREE_CELLS: usize = 45;
 
 // Type 1, an opening query.
 pub fn write_opening_query(buffer: &mut [u8], session: u64) -> u64
     ensures { Written buffer.old buffer.new (encode (opening_query session)) result }
 {
     if buffer.len() / 4 < 2 {
-        return 20;
+        return FULL;
     }
-    put_head(buffer, 1, session);
+    put_head(buffer, Form::OpeningQuery, session);
     put_end(buffer, 1);
-    4294967304
+    WRITTEN + 8
+}
+
+// A message that says only a node's level and id.
+fn write_pair(buffer: &mut [u8], form: Form, session: u64, level: u64, id: u64) -> u64
+    ensures { Written buffer.old buffer.new (pair_bytes (number_of_form form) session level id) result }
+{
+    if buffer.len() / 4 < 6 {
+        return FULL;
+    }
+    put_pair(buffer, form, session, level, id);
+    put_end(buffer, 5);
+    WRITTEN + 24
 }
 
 // Type 2, a node query.
+#[tactic(auto, using(crate::proofs::Writing::pair_node_query))]
 pub fn write_node_query(buffer: &mut [u8], session: u64, level: u64, id: u64) -> u64
     ensures { Written buffer.old buffer.new (encode (node_query session level id)) result }
 {
-    if buffer.len() / 4 < 6 {
-        return 20;
-    }
-    put_pair(buffer, 2, session, level, id);
-    put_end(buffer, 5);
-    4294967320
+    write_pair(buffer, Form::NodeQuery, session, level, id)
 }
 
 // Type 6, none: the sender has no such node.
+#[tactic(auto, using(crate::proofs::Writing::pair_no_node))]
 pub fn write_none(buffer: &mut [u8], session: u64, level: u64, id: u64) -> u64
     ensures { Written buffer.old buffer.new (encode (no_node session level id)) result }
 {
-    if buffer.len() / 4 < 6 {
-        return 20;
-    }
-    put_pair(buffer, 6, session, level, id);
-    put_end(buffer, 5);
-    4294967320
+    write_pair(buffer, Form::NoNode, session, level, id)
 }
 
 // Type 5, a literal with the bytes of the text.
 pub fn write_literal(buffer: &mut [u8], session: u64, level: u64, id: u64, text: &[u8]) -> u64
     ensures { Written buffer.old buffer.new (encode (literal session level id text.now)) result }
 {
-    let words = (text.len() + 2) / 3;
+    let words = text.len().div_ceil(3);
     let size = words + 6;
     if buffer.len() / 4 < size {
-        return 20;
+        return FULL;
     }
-    put_pair(buffer, 5, session, level, id);
+    put_pair(buffer, Form::Literal, session, level, id);
     put_text(buffer, 5, text);
     put_end(buffer, words + 5);
-    4294967296 + size as u64 * 4
-}
-
-fn least(a: usize, b: usize) -> usize
-    ensures { result ≡ min a b }
-{
-    if a < b { a } else { b }
+    WRITTEN + size as u64 * 4
 }
 
 // Type 4, a composition, with its trail number if it is `numbered`. Reference k has entry k of the indexes and of the counts; there are as
@@ -88,17 +96,17 @@ pub fn write_composition(
     ensures { Written buffer.old buffer.new
         (encode (composition session level id (stated_by numbered number) (paired indexes.now counts.now))) result }
 {
-    let words = least(indexes.len(), counts.len());
+    let words = indexes.len().min(counts.len());
     let from = references_from(numbered);
     let size = words + from + 1;
     if buffer.len() / 4 < size {
-        return 20;
+        return FULL;
     }
-    put_pair(buffer, 4, session, level, id);
+    put_pair(buffer, Form::Composition, session, level, id);
     put_trail_number(buffer, numbered, number);
     put_references(buffer, from, indexes, counts);
     put_end(buffer, words + from);
-    4294967296 + size as u64 * 4
+    WRITTEN + size as u64 * 4
 }
 
 // Type 3, an opening. Its cells are the first 3q cells of the table, five rows each, in the table's order; a row that the table lacks is 0.
@@ -118,19 +126,19 @@ pub fn write_opening(
     ensures { Written buffer.old buffer.new (encode (opening session rule w p levels m q length root (first_rows (q * 3 * 5) 0 (words_of cells.now)))) result }
 {
     let words = buffer.len() / 4;
-    let most = (words / 45) as u64;
+    let most = (words / THREE_CELLS) as u64;
     if most < q {
-        return 20;
+        return FULL;
     }
     let values = q as usize * 3 * 5;
     let end = values * 3 + 11;
     let size = values * 3 + 12;
     if words < size {
-        return 20;
+        return FULL;
     }
     put_front(buffer, session, rule, w, p, levels);
     put_middle(buffer, m, q, length, root);
     put_values(buffer, 11, cells, values);
     put_end(buffer, end);
-    4294967296 + size as u64 * 4
+    WRITTEN + size as u64 * 4
 }

@@ -1,6 +1,5 @@
 -- The words stored one after the other are the message: the law `opening_stored`.
-use Prim.Native.Nat.{◌*◌}
-use native.Mathlib.Omega.{arith}
+use Rattle.std.proofs.Common.{◌*◌, arith}
 use Rattle.message.specs.Messages.{opening}
 use Rattle.rows.specs.Rows.{words_of}
 use Rattle.message_writer.specs.Writing.{first_rows}

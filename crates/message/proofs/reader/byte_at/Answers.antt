@@ -1,5 +1,5 @@
 -- The law `byte_of`; the words before and the first byte of each are passed over.
-use native.Mathlib.Omega.{arith}
+use Rattle.std.proofs.Common.{arith}
 use Rattle.message.proofs.Words.{bytes_given}
 use Rattle.message.proofs.Parts.{room_is, byte_of}
 use Rattle.message.proofs.reader.byte_at.Goals as goal

@@ -1,5 +1,5 @@
 -- The number of what is read: the law `type_answer_lem`.
-use mathlib.Core.Path.{◌∙◌}
+use Rattle.std.proofs.Common.{◌∙◌}
 use Rattle.message.proofs.Answers.{type_answer_lem}
 use Rattle.message.proofs.reader.message_type.Goals as goal
 

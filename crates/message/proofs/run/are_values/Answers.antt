@@ -1,18 +1,14 @@
-use mathlib.Core.Path.{◌∙◌, sym, refl}
-use native.Mathlib.Omega.{arith}
-use borrow.Author.Rules.{rules}
+-- The test at each place is a factor of `values_are`: the law `values_all`.
+use Rattle.std.proofs.Common.{◌+◌, ◌*◌, drop, refl, ◌∙◌, arith, rules, tests}
+use Rattle.std.proofs.lemmas.Iterator.{YieldsList-from_range}
+use Rattle.std.proofs.lemmas.Iterator.Search.{all_from_yields_List}
 use Rattle.message.specs.Words.{link_words}
-use Rattle.message.proofs.Reading.{values_fail, values_more, values_end}
+use Rattle.message.specs.Fields.{value}
+use Rattle.message.proofs.Reading.{values_all}
 use Rattle.message.proofs.run.are_values.Goals as goal
 
-pub loop-left-init : goal.loop-left-init
-loop-left-init c = (refl, refl)
-
-pub returns-then-not-is_value : goal.returns-then-not-is_value
-returns-then-not-is_value c = values_fail (link_words c.args.message.now) c.loop-left.k _ c.loop-left-test.true (sym c.is_value.ensures ∙ c.if-not-is_value.true) ∙ sym c.loop-left.invariant.1
-
-pub loop-left-preserved : goal.loop-left-preserved
-loop-left-preserved c = (search rules, c.loop-left.invariant.1 ∙ values_more (link_words c.args.message.now) c.loop-left.k _ c.loop-left-test.true (sym c.is_value.ensures ∙ c.if-not-is_value.false))
-
 pub returns : goal.returns
-returns c = values_end (link_words c.args.message.now) c.loop-left.k _ (omega arith) ∙ sym c.loop-left.invariant.1
+returns c =
+    let ws = link_words c.args.message.now in
+    all_from_yields_List (λ k. value.is (drop (c.args.at + k * 3) ws)) _ _ c.all.result c.all.ensures.ran (YieldsList-from_range 0 c.args.count c.args.count refl (omega arith)) (λ k b q h. search (rules, tests))
+    ∙ values_all c.args.count c.args.at ws

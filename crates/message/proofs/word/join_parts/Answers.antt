@@ -1,5 +1,5 @@
 -- The two remainders in a row are one.
-use native.Mathlib.Omega.{arith}
+use Rattle.std.proofs.Common.{arith}
 use Rattle.message.specs.Words.{plain, rest_of}
 use Rattle.message.specs.Fields.{parts_value}
 use Rattle.message.proofs.word.join_parts.Goals as goal

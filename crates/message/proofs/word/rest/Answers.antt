@@ -1,5 +1,5 @@
 -- The rest is a remainder.
-use borrow.Author.Rules.{rules}
+use Rattle.std.proofs.Common.{rules}
 use Rattle.message.specs.Words.{rest_of}
 use Rattle.message.proofs.word.rest.Goals as goal
 

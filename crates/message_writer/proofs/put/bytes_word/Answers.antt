@@ -1,7 +1,8 @@
--- The word is below 2^28 behind its kind: the law `bytes_word_is`.
-use borrow.Author.Rules.{rules}
-use Rattle.message_writer.proofs.Writing.{bytes_word_is}
+-- The four bytes are one number.
+use Rattle.std.proofs.Common.{◌∙◌, ap, arith}
+use Rattle.message.specs.Words.{with_kind, word_of_bytes}
 use Rattle.message_writer.proofs.put.bytes_word.Goals as goal
 
 pub returns : goal.returns
-returns c = bytes_word_is _ _ _ _ c.requires (search rules) (search rules) (search rules)
+unfolding word_of_bytes
+returns c = c.word.ensures ∙ ap (with_kind 5) (omega arith)

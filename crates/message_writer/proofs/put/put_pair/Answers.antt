@@ -2,8 +2,5 @@
 use Rattle.message_writer.proofs.Writing.{pair_stored}
 use Rattle.message_writer.proofs.put.put_pair.Goals as goal
 
-pub put_head-requires : goal.put_head-requires
-put_head-requires c = c.requires
-
 pub returns : goal.returns
 returns c = pair_stored _ _ _ _ c.put_head.ensures c.put_number.ensures c.put_value.ensures

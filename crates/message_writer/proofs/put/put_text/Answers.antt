@@ -1,19 +1,20 @@
-use borrow.Author.Rules.{rules}
-use Prim.Native.Nat.{◌-◌}
-use Rattle.message_writer.proofs.Writing.{filled_none, filled_more, filled_done, no_text}
+use Rattle.std.proofs.Common.{ℕ, ◌+◌, ◌*◌, ◌∷◌, drop, ◌∙◌, ap, arith}
+use Rattle.message.specs.Fields.{text_to}
+use Rattle.message_writer.proofs.Writing.{filled_first, filled_more, filled_done, no_text}
 use Rattle.message_writer.proofs.put.put_text.Goals as goal
 
-pub loop-i-init : goal.loop-i-init
-loop-i-init c = (search rules, search rules, filled_none _ _ _)
+pub loop-k-init : goal.loop-k-init
+loop-k-init c = filled_first _ _ _
 
-pub text_word-w-requires : goal.text_word-w-requires
-text_word-w-requires c = c.loop-i-test.true
-
-pub loop-i-preserved : goal.loop-i-preserved
-loop-i-preserved c = (search rules, search rules, filled_more _ c.text_word-w.ensures (search rules) c.loop-i.invariant.2 c.put_word.ensures)
+pub loop-k-preserved : goal.loop-k-preserved
+loop-k-preserved c =
+    filled_more _
+    (c.text_word-w.ensures
+    ∙ ap (λ (n : ℕ). c.text_word-w.result ∷ text_to (drop n c.args.text.now)) {x = c.loop-k.k * 3 + 3} {y = (c.loop-k.k + 1) * 3} (omega arith))
+    (omega arith) c.loop-k.invariant c.put_word.ensures
 
 pub shape_of-buffer : goal.shape_of-buffer
-shape_of-buffer c = c.loop-i.invariant.2.same
+shape_of-buffer c = c.loop-k.invariant.same
 
 pub returns : goal.returns
-returns c = filled_done (no_text c.args.text.now c.loop-i.i c.loop-i-test.false) c.loop-i.invariant.2
+returns c = filled_done (no_text c.args.text.now (c.loop-k.k * 3) (omega arith)) c.loop-k.invariant

@@ -3,4 +3,4 @@ use Rattle.message_writer.proofs.Writing.{value_stored}
 use Rattle.message_writer.proofs.put.put_value.Goals as goal
 
 pub returns : goal.returns
-returns c = value_stored _ c.put_word.ensures c.put_word-2.ensures c.put_word-3.ensures
+returns c = value_stored _ c.word.ensures c.word-2.ensures c.word-3.ensures c.put_word.ensures c.put_word-2.ensures c.put_word-3.ensures
