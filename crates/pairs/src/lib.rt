@@ -10,16 +10,21 @@ ghost use Rattle.std.specs.Prelude.{◌≡◌};
 ghost use Rattle.shingle.specs.Table.{shingles_in};
 ghost use Rattle.pairs.specs.Once.{few_once};
 
+use places::Tables;
+
+// The most shingles that a list has.
+const MAX_SHINGLES: usize = 4096;
+
 // Whether the own list without the shingles that are gone and with the new ones has at most 4,096 shingles and no pair twice at one
 // level. No order of the own list is slow: neighbours are compared in sorted order, and not each with each.
 pub fn once(new: &[u8], gone: &[u8], own: &[u8]) -> bool
     ensures { result ≡ few_once (shingles_in new.now) (shingles_in gone.now) (shingles_in own.now) }
 {
-    let mut noted = [0usize; 4096];
+    let mut noted = [0usize; MAX_SHINGLES];
     let kept = places::note(gone, own, 0, &mut noted, 0);
-    let all = places::note(&new[..0], new, own.len() / 24, &mut noted, kept);
-    if all > 4096 {
+    let all = places::note(&[], new, own.len() / 24, &mut noted, kept);
+    if all > MAX_SHINGLES {
         return false;
     }
-    neighbours::none_twice(own, new, &mut noted[..all])
+    Tables { own, new }.none_twice(&mut noted[..all])
 }

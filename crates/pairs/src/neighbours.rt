@@ -5,46 +5,41 @@ ghost use Rattle.shingle.specs.Shingles.{pair_of};
 ghost use Rattle.shingle.specs.Table.{shingle_of};
 ghost use Rattle.shingle.specs.Rising.{same_pair};
 ghost use Rattle.sketch.specs.Opening.{no_pair_twice};
-ghost use Rattle.pairs.specs.Places.{both_of, entries_at, shingles_at};
+ghost use Rattle.pairs.specs.Places.{entries_at, shingles_at};
+ghost use Rattle.pairs.specs.Both.{both};
 
-use super::{places, shell};
+use super::places::Tables;
 use entries::Entry;
 
 // Whether two entries have one pair at one level.
+#[tactic(auto, unfolding(shingle::specs::Rising::same_pair))]
 fn same(a: Entry, b: Entry) -> bool
     ensures { result ≡ same_pair (pair_of (shingle_of a)) (pair_of (shingle_of b)) }
 {
-    if a.tail / 65536 != b.tail / 65536 {
-        return false;
-    }
-    if a.previous != b.previous {
-        return false;
-    }
-    a.own == b.own
+    a.tail / 65536 == b.tail / 65536 && a.previous == b.previous && a.own == b.own
 }
 
-// Whether no pair comes twice at places that are in order.
-fn differ(own: &[u8], new: &[u8], noted: &[usize]) -> bool
-    requires { InOrder 1 (length noted.now) (entries_at (both_of own.now new.now) noted.now) }
-    ensures { result ≡ no_pair_twice (shingles_at (both_of own.now new.now) noted.now) }
-{
-    let n = noted.len();
-    let mut k = 1;
-    while k < n {
-        let a = places::read(own, new, noted[k - 1]);
-        let b = places::read(own, new, noted[k]);
-        if same(a, b) {
-            return false;
+impl Tables<'_> {
+    // Whether no pair comes twice at places that are in order.
+    fn differ(self, noted: &[usize]) -> bool
+        requires { InOrder 1 (length noted.now) (entries_at (both self) noted.now) }
+        ensures { result ≡ no_pair_twice (shingles_at (both self.entry) noted.now) }
+    {
+        for k in 1..noted.len() {
+            let a = self.read(noted[k - 1]);
+            let b = self.read(noted[k]);
+            if same(a, b) {
+                return false;
+            }
         }
-        k += 1;
+        true
     }
-    true
-}
 
-// Whether no pair comes twice at the noted places. They are sorted for that.
-pub fn none_twice(own: &[u8], new: &[u8], noted: &mut [usize]) -> bool
-    ensures { result ≡ no_pair_twice (shingles_at (both_of own.now new.now) noted.old) }
-{
-    shell::sort(own, new, noted);
-    differ(own, new, noted)
+    // Whether no pair comes twice at the noted places. They are sorted for that.
+    pub fn none_twice(self, noted: &mut [usize]) -> bool
+        ensures { result ≡ no_pair_twice (shingles_at (both self.entry) noted.old) }
+    {
+        self.sort(noted);
+        self.differ(noted)
+    }
 }

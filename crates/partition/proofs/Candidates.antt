@@ -11,7 +11,7 @@ use lib.Dec.{leb, ltb}
 use lib.ListN.{length}
 use borrow.Author.Tests.{le-leb, leb-true, lt-ltb, ltb-true}
 use Rattle.partition.specs.Cuts.{value_at, lowest, candidate}
-use Rattle.partition.specs.Scans.{Low, Floor, AfterLastLow, FirstLow, FirstPassing, NextCandidate}
+use Rattle.partition.specs.Scans.{Low, Floor, AfterLastLow, FirstLow, NextCandidate}
 use Rattle.partition.specs.Runs.{Level}
 
 both : (a b : Bool) → (a && b) ≡ true → (a ≡ true) × (b ≡ true)
@@ -139,27 +139,20 @@ searched_past w h s bytes from here a b f far S e L =
 
 module _ (w h s : ℕ) (bytes : List ℕ) (from end : ℕ) (far : h ≤ from) (some : from < end) (within : end + w + h ≤ length bytes + 1) (a f : ℕ)
     (S : Searched w h s bytes from a f) where
-  none_left : ((j : ℕ) → from ≤ j → j < end → candidate w h s bytes j ≡ false) → NextCandidate w h s bytes from end end 0
-  none_left none =
-      record {
-        first = record { low = omega arith; high = omega arith; before = none; found = λ x. absurd (omega arith) };
-        value = λ x. absurd (omega arith);
-      }
+  pub next_none : end ≤ a → (j : ℕ) → from ≤ j → j < end → candidate w h s bytes j ≡ false
+  next_none l j x y = S.none j x (omega arith)
 
-  pub next_none : end ≤ a → NextCandidate w h s bytes from end end 0
-  next_none l = none_left (λ j x y. S.none j x (omega arith))
+  none_before : (p : ℕ) → ((j : ℕ) → a ≤ j → j < p → Low (value_at w s bytes) h j → ⊥) → (j : ℕ) → from ≤ j → j < p → candidate w h s bytes j ≡ false
+  none_before p barred j x y = at (dec_lt j a)
+    where
+      at : Dec (j < a) → candidate w h s bytes j ≡ false
+      at (yes q) = S.none j x q
+      at (no q) = not_candidate w h s bytes j (λ c. barred j (omega arith) y c.low)
+
+  pub next_past : ((j : ℕ) → a ≤ j → j < end → Low (value_at w s bytes) h j → ⊥) → (j : ℕ) → from ≤ j → j < end → candidate w h s bytes j ≡ false
+  next_past barred = none_before end barred
 
   module _ (p m : ℕ) (F : FirstLow (value_at w s bytes) h a end p m) where
-    none_before : (j : ℕ) → from ≤ j → j < p → candidate w h s bytes j ≡ false
-    none_before j x y = at (dec_lt j a)
-      where
-        at : Dec (j < a) → candidate w h s bytes j ≡ false
-        at (yes q) = S.none j x q
-        at (no q) = not_candidate w h s bytes j (λ c. F.barred j (omega arith) y c.low)
-
-    pub next_past : end ≤ p → NextCandidate w h s bytes from end end 0
-    next_past l = none_left (λ j x y. none_before j x (omega arith))
-
     module _ (inside : p < end) where
       here : Low (value_at w s bytes) h p → NextCandidate w h s bytes from end p m
       here low =
@@ -168,7 +161,7 @@ module _ (w h s : ℕ) (bytes : List ℕ) (from end : ℕ) (far : h ≤ from) (s
                 record {
                   low = omega arith;
                   high = omega arith;
-                  before = none_before;
+                  before = none_before p F.barred;
                   found = λ x. is_candidate w h s bytes p (record { left = omega arith; right = omega arith; low = low });
                 };
             value = λ x. F.value;

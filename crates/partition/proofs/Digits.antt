@@ -3,13 +3,8 @@ use mathlib.Core.List.{List, [], ◌∷◌, map}
 use mathlib.Core.Path.{◌≡◌, refl}
 use Prim.Native.Nat.{ℕ, zero, suc, ◌<◌}
 use native.Mathlib.Nat.{not-suc-le-zero, le_of_suc-le-suc}
-use native.Mathlib.Omega.{arith}
 use lib.ListN.{length, get_or}
 use Rattle.spread.specs.Spreading.{spread_of}
-
-pub digit_small : (b : ℕ) {x : ℕ} → x ≡ spread_of b → x < 65521
-unfolding spread_of
-digit_small b e = omega arith
 
 pub digit_at : (bytes : List ℕ) (i : ℕ) → i < length bytes → get_or (map spread_of bytes) i 0 ≡ spread_of (get_or bytes i 0)
 digit_at [] i l = absurd (not-suc-le-zero l)

@@ -1,8 +1,7 @@
 -- Windows of equal bytes: they have one value.
-use mathlib.Core.List.{List, [], ◌∷◌, map}
+use mathlib.Core.List.{List, ◌∷◌, map}
 use mathlib.Core.Path.{◌≡◌, refl, sym, ap, ◌∙◌}
 use Prim.Native.Nat.{ℕ, zero, suc, ◌+◌, ◌-◌, ◌%◌, ◌≤◌, ◌<◌}
-use native.Mathlib.Decide.{dec_lt}
 use native.Mathlib.Omega.{arith}
 use lib.ListN.{length, get_or, take, drop, replicate, length-map}
 use lib.Seq.{drop-cons}
@@ -39,17 +38,3 @@ level w h s bytes from until to some after l m n E =
   where
     here : (j : ℕ) → from - 1 ≤ j → j + w ≤ until → window_at w bytes j ≡ number_from 0 (replicate w (spread_of (get_or bytes (from - 1) 0))) % 65521
     here j x y = window_equal w bytes j (get_or bytes (from - 1) 0) (omega arith) (λ k a b. E.same k (omega arith) (omega arith))
-
--- No value.
-pub level_none : (h : ℕ) (v : ℕ → ℕ) (at : ℕ) → Level h v at at
-level_none h v at = record { low = omega arith; near = λ x. absurd (omega arith); same = λ j x y. absurd (omega arith) }
-
-pub equal_none : (bytes : List ℕ) (from : ℕ) → EqualBytes bytes from from
-equal_none bytes from = record { some = omega arith; same = λ j x y. absurd (omega arith) }
-
-pub equal_one : (bytes : List ℕ) (from i : ℕ) → EqualBytes bytes from i → get_or bytes i 0 ≡ get_or bytes from 0 → EqualBytes bytes from (i + 1)
-equal_one bytes from i E e = record { some = omega arith; same = λ j x y. at j x y (dec_lt j i) }
-  where
-    at : (j : ℕ) → from ≤ j → j < i + 1 → Dec (j < i) → get_or bytes j 0 ≡ get_or bytes from 0
-    at j x y (yes q) = E.same j x q
-    at j x y (no q) = ap (λ (k : ℕ). get_or bytes k 0) (let k : j ≡ i = omega arith in k) ∙ e

@@ -55,9 +55,3 @@ window_small w bytes i = omega arith
 pub value_of : (w s : ℕ) (bytes : List ℕ) (i : ℕ) {x : ℕ} → x ≡ window_at w bytes i → x % s ≡ value_at w s bytes i
 unfolding value_at
 value_of w s bytes i e = ap (λ (y : ℕ). y % s) e
-
--- The bytes from i up to i + w are the window at i.
-pub window_here : (w : ℕ) (bytes : List ℕ) (i : ℕ) {x : ℕ} → x ≡ window_at (i + w - i) bytes i → x ≡ window_at w bytes i
-window_here w bytes i e =
-    let n : i + w - i ≡ w = omega arith in
-    rw n at e

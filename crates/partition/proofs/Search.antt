@@ -3,7 +3,7 @@ use mathlib.Core.Bool.{Bool, true, false, ◌&&◌}
 use mathlib.Core.List.{List, [], ◌∷◌, ◌++◌, append_assoc, append-nil}
 use mathlib.Core.Path.{◌≡◌, refl, sym, ap, ◌∙◌, fun_ext}
 use Prim.Native.Nat.{ℕ, zero, suc, ◌+◌, ◌-◌, ◌≤◌, ◌<◌, max}
-use native.Mathlib.Decide.{dec_le}
+use native.Mathlib.Decide.{dec_le, dec_lt}
 use native.Mathlib.Nat.{zero-add, add-zero, suc-add, add-suc}
 use native.Mathlib.Numerals.{add-one}
 use native.Mathlib.Omega.{arith}
@@ -140,16 +140,6 @@ module _ (w h s : ℕ) (bytes at : List ℕ) where
   going_first l z = record { cuts = sym (cuts_after w h s bytes); few = omega arith; places = l; rest = z; from = omega arith }
 
   module _ (n a to p : ℕ) (G : Going w h s bytes at n a) (F : FirstPassing (candidate w h s bytes) a to p) where
-    pub going_past : to ≤ p → Going w h s bytes at n to
-    going_past l =
-        record {
-          cuts = rw (← skip (candidate w h s bytes) h (length bytes + 1) a to (omega arith) (λ x low high. F.before x low (omega arith))) G.cuts;
-          few = G.few;
-          places = G.places;
-          rest = G.rest;
-          from = omega arith;
-        }
-
     module _ (step : ℕ) (least : step ≡ max h 1) (inside : to ≤ length bytes + 1) (l : p < to) where
       one_cut : take (n + 1) (set at n p) ++ take (31 - (n + 1)) (after (candidate w h s bytes) h (length bytes + 1) (p + step)) ≡ cuts_of w h s bytes
       one_cut =
@@ -183,20 +173,26 @@ module _ (w h s : ℕ) (bytes at : List ℕ) where
         rest = rest_on;
       }
 
-  pub found_all : (n a : ℕ) → Going w h s bytes at n a → length bytes + 1 - (w + h) ≤ a → Found w h s bytes n at
-  found_all n a G l =
+  -- No position from a on is a candidate.
+  pub found_all : (n a : ℕ) → Going w h s bytes at n a
+      → ((x : ℕ) → a ≤ x → x < length bytes + 1 - (w + h) → candidate w h s bytes x ≡ false) → Found w h s bytes n at
+  found_all n a G none =
       record {
         cuts =
             whole (take (31 - n) (after (candidate w h s bytes) h (length bytes + 1) a))
-            (ap (take (31 - n)) (none_after (candidate w h s bytes) h (length bytes + 1) a none) ∙ take-nil (31 - n))
+            (ap (take (31 - n)) (none_after (candidate w h s bytes) h (length bytes + 1) a all) ∙ take-nil (31 - n))
             G.cuts;
         few = omega arith;
         places = G.places;
         rest = G.rest;
       }
     where
-      none : (x : ℕ) → a ≤ x → candidate w h s bytes x ≡ false
-      none x k = not_candidate w h s bytes x (λ c. omega (arith, c.right))
+      all : (x : ℕ) → a ≤ x → candidate w h s bytes x ≡ false
+      all x k = either (dec_lt x (length bytes + 1 - (w + h)))
+        where
+          either : Dec (x < length bytes + 1 - (w + h)) → candidate w h s bytes x ≡ false
+          either (yes q) = none x k q
+          either (no q) = not_candidate w h s bytes x (λ c. omega (arith, c.right))
 
 -- After a cut at p no value is below that of p, as far as the next cut may follow.
 pub floor_after : (w h s : ℕ) (bytes : List ℕ) (p m step : ℕ) → candidate w h s bytes p ≡ true → m ≡ value_at w s bytes p → step ≡ max h 1
@@ -215,5 +211,6 @@ module _ (w s width modulus : ℕ) (S : Sized w s width modulus) (h : ℕ) (byte
       rw S.wide
       (ap (λ (v : ℕ → ℕ). take 31 (spaced h 0 (passing (λ i. leb h i && (leb (i + w + h) (length bytes) && lowest v i h)) (length bytes + 1) 0))) same_values)
 
-  pub found_same : {n : ℕ} {at : List ℕ} → Found width h modulus bytes n at → Found w h s bytes n at
-  found_same F = record { cuts = F.cuts ∙ same_cuts; few = F.few; places = F.places; rest = F.rest }
+  pub found_same : {distance : ℕ} {block : List ℕ} → block ≡ bytes → distance ≡ h
+      → {n : ℕ} {at : List ℕ} → Found width distance modulus block n at → Found w h s bytes n at
+  found_same b d F = record { cuts = F.cuts ∙ rw (b, d) same_cuts; few = F.few; places = F.places; rest = F.rest }

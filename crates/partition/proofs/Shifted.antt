@@ -2,15 +2,15 @@
 -- windows and a digit beside it.
 use mathlib.Core.List.{List, [], ◌∷◌, ◌++◌, map}
 use mathlib.Core.Path.{◌≡◌, refl, sym, ap, ◌∙◌}
-use Prim.Native.Nat.{ℕ, suc, ◌+◌, ◌*◌, ◌%◌, ◌^◌, ◌≤◌, ◌<◌}
-use native.Mathlib.Nat.{add-zero, add_assoc, add-mul, mul_assoc, mul_comm, mul-le-mul, pow-suc, mul-add-mod_self_right}
+use Prim.Native.Nat.{ℕ, ◌+◌, ◌*◌, ◌%◌, ◌^◌, ◌≤◌, ◌<◌}
+use native.Mathlib.Nat.{add_assoc, add-mul, mul_assoc, mul_comm, mul-le-mul, pow-suc, mul-add-mod_self_right}
 use native.Mathlib.Numerals.{add-one}
 use native.Mathlib.Omega.{arith}
 use lib.ListN.{length, get_or, take, drop, length-take, length-drop, length-map}
 use lib.Seq.{drop-cons, take-suc, get_or-drop}
 use Rattle.spread.specs.Spreading.{spread_of}
 use Rattle.partition.specs.Cuts.{number_from, window_at}
-use Rattle.partition.specs.Sliding.{leaving_of, slid}
+use Rattle.partition.specs.Sliding.{slid}
 use Rattle.partition.proofs.Digits.{digit_at}
 use Rattle.partition.proofs.Reading.{step}
 
@@ -74,12 +74,6 @@ shifted w bytes i inside =
     rw (← digit_at bytes i (omega arith), ← digit_at bytes (i + w) inside)
     (cancel (number_from 0 (take w (drop i digits))) (257 ^ w) (get_or digits i 0) (get_or digits (i + w) 0) (number_from 0 (take w (drop (i + 1) digits)))
     (both_ends w digits i (simp length-map inside)))
-
--- How often a digit is added that a window of one byte more leaves.
-pub leaving_on : (x w : ℕ) → x ≡ leaving_of w % 65521 → x * 257 % 65521 ≡ leaving_of (w + 1) % 65521
-leaving_on x w e =
-    rw (e, add-one w, pow-suc 257 w, ← mul_assoc 65520 (257 ^ w) 257)
-    (rw (add-zero (leaving_of w % 65521 * 257), add-zero (leaving_of w * 257)) at (step (leaving_of w) 0))
 
 -- What a digit adds as its window leaves it.
 pub product_small : (old often : ℕ) → old ≤ 65520 → often ≤ 65520 → old * often ≤ 65520 * 65520

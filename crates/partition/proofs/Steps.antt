@@ -3,7 +3,9 @@ use Prim.Native.Nat.{ℕ, ◌+◌, ◌-◌, ◌≤◌, ◌<◌}
 use mathlib.Core.Path.{◌≡◌, subst}
 use native.Mathlib.Decide.{dec_lt}
 use native.Mathlib.Omega.{arith}
+use Rattle.std.specs.Prelude.{Option, Some, None}
 use Rattle.partition.specs.Scans.{Low, AfterLastLow, FirstLow}
+use Rattle.partition.specs.Places.{LastLow}
 
 -- What holds of the positions from `from` up to i, and of i, holds up to i + 1.
 one_more : (P : ℕ → Type 0) (from i : ℕ) → ((j : ℕ) → from ≤ j → j < i → P j) → P i → (j : ℕ) → from ≤ j → j < i + 1 → P j
@@ -17,12 +19,8 @@ module _ (v : ℕ → ℕ) (m from : ℕ) where
   pub last_none : {to : ℕ} → to ≤ from → AfterLastLow v m from to from
   last_none l = record { low = omega arith; high = omega arith; after = λ j a b. omega arith; found = λ h. omega arith }
 
-  -- The last of them all.
-  pub last_near : {to : ℕ} → from < to → v (to - 1) ≤ m → AfterLastLow v m from to to
-  last_near l h = record { low = omega arith; high = omega arith; after = λ j a b. omega arith; found = λ x. h }
-
-  pub last_here : {j r : ℕ} → AfterLastLow v m from j r → from ≤ j → v j ≤ m → AfterLastLow v m from (j + 1) (j + 1)
-  last_here {j} r l h =
+  pub last_here : (j : ℕ) → from ≤ j → v j ≤ m → AfterLastLow v m from (j + 1) (j + 1)
+  last_here j l h =
       let e : j ≡ j + 1 - 1 = omega arith in
       record { low = omega arith; high = omega arith; after = λ k a b. omega arith; found = λ x. subst (λ (k : ℕ). v k ≤ m) e h }
 
@@ -30,33 +28,15 @@ module _ (v : ℕ → ℕ) (m from : ℕ) where
   last_not {j} {r = last} r h =
       record { low = r.low; high = omega arith; after = one_more (λ k. m < v k) last j r.after h; found = r.found }
 
+  -- The last is as it was after a value above m.
+  pub last_more : (j : ℕ) (last : Option ℕ) → LastLow v m from j last → m < v j → LastLow v m from (j + 1) last
+  last_more j None r h = last_not r h
+  last_more j (Some last) r h = (r.0, last_not r.1 h)
+
 -- The values from `to` up to `end` are all above m: what is known after a look back as far as `to`.
 pub record Above (v : ℕ → ℕ) (m to end : ℕ) : Type 0 where
   pub high : to ≤ end
   pub above : (j : ℕ) → to ≤ j → j < end → m < v j
-
-module _ (v : ℕ → ℕ) (m : ℕ) where
-  pub above_none : (end : ℕ) → Above v m end end
-  above_none end = record { high = omega arith; above = λ j a b. omega arith }
-
-  module _ {to end : ℕ} (A : Above v m to end) where
-    pub above_all : {from : ℕ} → to ≤ from → AfterLastLow v m from end from
-    above_all l = record { low = omega arith; high = omega arith; after = λ j a b. A.above j (omega arith) b; found = λ h. omega arith }
-
-    -- A stretch further back, and what was found there.
-    module _ {back t : ℕ} (T : AfterLastLow v m back to t) where
-      beyond : (j : ℕ) → t ≤ j → j < end → m < v j
-      beyond j a b = at (dec_lt j to)
-        where
-          at : Dec (j < to) → m < v j
-          at (yes h) = T.after j a h
-          at (no h) = A.above j (omega arith) b
-
-      pub stretch_found : {from : ℕ} → from ≤ back → back < t → AfterLastLow v m from end t
-      stretch_found l h = record { low = omega arith; high = omega (arith, T.high, A.high); after = beyond; found = λ x. T.found h }
-
-      pub stretch_none : back ≤ to → t ≤ back → Above v m back end
-      stretch_none l h = record { high = omega (arith, A.high); above = λ j a b. beyond j (omega arith) b }
 
 -- The value at p is below all before it and not above any after it, as far as j, which is at most h further. No position before p is low.
 pub record Falling (v : ℕ → ℕ) (h from p j : ℕ) : Type 0 where
@@ -103,12 +83,13 @@ module _ (v : ℕ → ℕ) (h from : ℕ) where
       below k a b (yes q) = omega (arith, r.falls k a q)
       below k a b (no q) = omega (arith, r.after k (omega arith) b)
 
+  -- Where the value falls at the end, no position before it is low.
+  pub low_none : (end : ℕ) {p : ℕ} → Falling v h from p p → end ≤ p → (j : ℕ) → from ≤ j → j < end → Low v h j → ⊥
+  low_none end r l j a b = r.barred j a (omega arith)
+
   module _ (end : ℕ) {p j m : ℕ} (r : Falling v h from p j) (e : m ≡ v p) where
     pub low_reached : p + h ≤ j → FirstLow v h from end p m
     low_reached l = record { value = e; low = r.low; barred = r.barred; falls = r.falls; after = λ i k a b. r.after k a (omega arith) }
 
     pub low_zero : m ≡ 0 → FirstLow v h from end p m
     low_zero z = record { value = e; low = r.low; barred = r.barred; falls = r.falls; after = λ i k a b. omega arith }
-
-    pub low_past : end ≤ p → FirstLow v h from end p m
-    low_past l = record { value = e; low = r.low; barred = r.barred; falls = r.falls; after = λ i k a b. omega arith }

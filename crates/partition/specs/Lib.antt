@@ -6,3 +6,4 @@ pub mod Sliding
 pub mod Scans
 pub mod Runs
 pub mod Apart
+pub mod Places

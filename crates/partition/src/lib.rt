@@ -3,15 +3,19 @@
 
 ghost use Rattle.partition.specs.Found.{Found};
 
-mod digit;
+mod block;
 mod run;
 mod scan;
 mod sliding;
 mod start;
-mod window;
+
+use block::Block;
 
 // The number of this rule, which an opening carries.
 pub const RULE_NUMBER: u64 = 3;
+
+// After so many cuts no more are made.
+const MAX_CUTS: usize = 31;
 
 // The cuts of one block, from the left: the first n numbers of `at`.
 #[derive(Clone, Copy)]
@@ -26,28 +30,22 @@ pub fn find_cuts(bytes: &[u8], w: usize, h: usize, s: u64) -> Cuts
 {
     let mut at = [0usize; 32];
     let mut n: usize = 0;
-    let end = scan::range_end(bytes.len(), w, h);
-    if end <= h {
+    // Where no position can be a candidate, the table is not copied.
+    if block::range_end(bytes.len(), w, h) <= h {
         return Cuts { n, at };
     }
     let table = spread::table();
-    let window = sliding::window_of(w, s);
-    let step = scan::step(h);
-    let mut a = h;
+    let block = Block::new(bytes, &table, w, h, s);
     let mut floor: u32 = 0;
-    while a < end {
-        let cut = scan::next_candidate(bytes, &table[..], window, h, floor, a, end);
-        let p = cut.at;
-        if end <= p {
-            return Cuts { n, at };
-        }
-        at[n] = p;
+    let mut from = block.distance;
+    while let Some(cut) = block.next_candidate(floor, from) {
+        at[n] = cut.at;
         n += 1;
-        if n == 31 {
+        if n == MAX_CUTS {
             return Cuts { n, at };
         }
         floor = cut.value;
-        a = p + step;
+        from = cut.at + block.step();
     }
     Cuts { n, at }
 }

@@ -1,12 +1,9 @@
 // A run of equal bytes, which is passed over: its windows have one value, and a candidate's is smaller than the one before it.
-ghost use Rattle.std.specs.Prelude.{◌≡◌, ◌+◌, ◌≤◌, ◌<◌, length};
-ghost use Rattle.spread.specs.Spreading.{Spreads};
-ghost use Rattle.partition.specs.Cuts.{value_at};
+ghost use Rattle.std.specs.Prelude.{◌≤◌, ◌<◌, length};
+ghost use Rattle.partition.specs.Places.{values, StandsIn};
 ghost use Rattle.partition.specs.Runs.{EqualBytes, Level};
-ghost use Rattle.partition.specs.Sliding.{Stands};
 
-use super::sliding::Window;
-use super::start;
+use super::block::Block;
 use super::start::Start;
 
 // How far the byte at `from` is repeated, at most up to `to`.
@@ -17,43 +14,30 @@ fn equal_until(bytes: &[u8], from: usize, to: usize) -> usize
     ensures equal_bytes { EqualBytes bytes.now from result }
 {
     let byte = bytes[from];
-    let mut i = from;
-    while i < to {
+    for i in from..to {
         if bytes[i] != byte {
             return i;
         }
-        i += 1;
     }
-    i
+    to
 }
 
-// The start past the run of equal bytes that it may be in, but not past `end`. Where h is 0, equal values bar nothing.
-pub fn past_run(
-    bytes: &[u8],
-    table: &[u16],
-    window: Window,
-    h: usize,
-    start: Start,
-    end: usize,
-) -> Start
-    requires spreads { Spreads table.now }
-    requires le_modulus { 1 ≤ window.modulus }
-    requires stands { Stands window.width window.modulus bytes.now start.at start.number start.before }
-    requires h_le_at { h ≤ start.at }
-    requires h_in_bounds { end + window.width + h ≤ length bytes.now + 1 }
-    ensures level { Level h (value_at window.width window.modulus bytes.now) start.at result.at }
-    ensures stands_2 { Stands window.width window.modulus bytes.now result.at result.number result.before }
-{
-    if h == 0 {
-        return start;
+impl Block<'_> {
+    // The start past the run of equal bytes that it may be in, but not past the block's end. Where the distance is 0, equal values bar nothing.
+    pub fn past_run(&self, start: Start) -> Start
+        requires stands { StandsIn self.now start }
+        requires distance_le_at { self.now.distance ≤ start.at }
+        ensures level { Level self.now.distance (values self.now) start.at result.at }
+        ensures stands_2 { StandsIn self.now result }
+    {
+        if self.distance == 0 || self.end <= start.at {
+            return start;
+        }
+        let last = start.at - 1;
+        let until = equal_until(self.bytes, last, self.end - 1 + self.width);
+        if until <= last + self.width {
+            return start;
+        }
+        self.moved(start, until - self.width + 1)
     }
-    if end <= start.at {
-        return start;
-    }
-    let last = start.at - 1;
-    let until = equal_until(bytes, last, end - 1 + window.width);
-    if until <= last + window.width {
-        return start;
-    }
-    start::moved(bytes, table, window, start, until - window.width + 1)
 }

@@ -1,14 +1,12 @@
 -- The rows of the difference of two cell tables, and what is then taken from them.
-use Rattle.std.proofs.Common.{◌≡◌, ℕ, ◌+◌, ◌*◌, ◌/◌, ◌<◌, ◌≤◌, Bool, true, false, List, [], length, get_or, take, drop, replicate, sym, ap, ◌∙◌, append-nil, arith, drop_of_length-le, length-take-le, ext_get_or, le-leb}
-use borrow.Author.Tests.{lt-leb}
-use lib.ListN.{length-replicate}
+use Rattle.std.proofs.Common.{◌≡◌, ℕ, ◌+◌, ◌*◌, ◌/◌, ◌<◌, ◌≤◌, Bool, true, List, [], length, get_or, drop, sym, ap, ◌∙◌, append-nil, arith, drop_of_length-le, ext_get_or, le-leb}
 use Rattle.entries.proofs.Linear.{both}
 use Rattle.rows.specs.Rows.{words_of}
 use Rattle.sketch.specs.Sums.{along, neg, minus, difference_of, row_bytes, row_less, subtracted}
 use Rattle.sketch.specs.Opening.{taken_of, all_zero}
 use Rattle.sketch.proofs.Sums.{length-along, get_d_along, words_along}
 use Rattle.single.specs.Peeling.{rows_in, width_fits, Taken}
-use Rattle.single.specs.Steps.{Cleared, TookAll}
+use Rattle.single.specs.Steps.{TookAll}
 
 length_in : (q : ℕ) (t : List ℕ) → length (rows_in q t) ≡ q * 15
 unfolding rows_in
@@ -64,23 +62,3 @@ taken_all levels q theirs own t t₁ t₂ new gone r low high long e took z =
       negative = λ w. rw rows at took.negative;
       nothing = λ w. absurd (both fits w);
     }
-
-pub taken_none : (levels q : ℕ) (theirs own new gone : List ℕ) → width_fits q ≡ false → Cleared new → Cleared gone
-    → Taken levels q theirs own new gone false
-taken_none levels q theirs own new gone out a b =
-    record {
-      all = rw out;
-      positive = λ w. absurd (both w out);
-      negative = λ w. absurd (both w out);
-      nothing = λ w. (a.zeros, b.zeros);
-    }
-
-pub too_few : (q : ℕ) → q < 1 → width_fits q ≡ false
-too_few q h = rw (lt-leb 1 q h)
-
-pub too_many : (q : ℕ) → 64 < q → width_fits q ≡ false
-too_many q h = rw (le-leb 1 q (omega arith), lt-leb q 64 h)
-
--- The front of a table of zeros is as long as it is asked for.
-pub front_long : (n m : ℕ) → m ≤ n → length (take m (replicate {A = ℕ} n 0)) ≡ m
-front_long n m h = length-take-le m (replicate n 0) (omega (arith, length-replicate {A = ℕ} n 0))

@@ -8,13 +8,12 @@ use Rattle.rows.proofs.Rows.{zero_rows}
 use Rattle.entries.specs.declared.Entry.{Entry}
 use Rattle.entries.specs.Entries.{blank, entries_of, table_of, entry_bytes, table_bytes, put_of, Put}
 use Rattle.entries.proofs.Entries.{length_table, get_rows, get_none, put_length}
-use Rattle.entries.proofs.Linear.{both}
 use Rattle.shingle.specs.declared.Shingle.{Shingle}
 use Rattle.shingle.specs.Table.{entry_of, shingle_of, shingles_from, shingles_in}
 use Rattle.shingle.proofs.Counts.{none}
 use Rattle.shingle.proofs.Written.{written_list}
 use Rattle.single.specs.Peeling.{list_table}
-use Rattle.single.specs.Steps.{Cleared, Listed}
+use Rattle.single.specs.Steps.{Cleared}
 
 -- A table for 192 shingles that lists n of them, has their bytes and is blank after them.
 pub record Holds (t : List ℕ) (n : ℕ) : Type 0 where
@@ -147,12 +146,3 @@ list_more t t' n e room l p c =
             ∙ (get_or-set_other (table_of t) n k e blank (λ i. omega arith) ∙ l.after k (omega arith));
       },
     )
-
--- Written into the table of its sign.
-pub listed_negative : {sign : Bool} {n m : ℕ} {e : Entry} {new gone gone' : List ℕ} → sign ≡ true → Put gone gone' m e
-    → Listed sign n m e new new gone gone' n
-listed_negative so p = record { positive = λ other. absurd (both so other); negative = λ same. (p, (refl, refl)) }
-
-pub listed_positive : {sign : Bool} {n m : ℕ} {e : Entry} {new new' gone : List ℕ} → sign ≡ false → Put new new' n e
-    → Listed sign n m e new new' gone gone (n + 1)
-listed_positive so p = record { positive = λ same. (p, (refl, refl)); negative = λ other. absurd (both other so) }

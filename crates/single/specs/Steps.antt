@@ -1,11 +1,16 @@
 -- What the steps of the taking promise each other.
-use Rattle.std.specs.Prelude.{◌≡◌, ℕ, ◌+◌, ◌*◌, Bool, true, false, List, replicate}
+use Rattle.std.specs.Prelude.{◌≡◌, ℕ, ◌+◌, ◌*◌, ◌<◌, Bool, true, false, Option, Some, None, List, replicate}
 use Rattle.rows.specs.Rows.{words_of}
 use Rattle.entries.specs.declared.Entry.{Entry}
 use Rattle.entries.specs.Entries.{Put}
 use Rattle.shingle.specs.Table.{entry_of}
 use Rattle.sketch.specs.Opening.{is_negative, shingle_in, held_by, without, peel, positives, negatives}
 use Rattle.single.specs.Peeling.{Lists}
+
+-- The single cell of lowest index, if there is one. `first` is its index, or 3q.
+abbrev pub Lowest : (q first : ℕ) → Option ℕ → Type 0
+Lowest q first None = first ≡ q * 3
+Lowest q first (Some i) = (i ≡ first) × (i < q * 3)
 
 -- A table for 192 shingles with none in it.
 pub record Cleared (t : List ℕ) : Type 0 where

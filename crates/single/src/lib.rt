@@ -17,10 +17,7 @@ pub fn peel(levels: u64, q: u64, theirs: &[u8], own: &[u8], new: &mut [u8], gone
     ensures { TakenInto levels q theirs.now own.now new.old new.new gone.old
         gone.new result }
 {
-    if new.len() != TAKEN_BYTES {
-        return false;
-    }
-    if gone.len() != TAKEN_BYTES {
+    if new.len() != TAKEN_BYTES || gone.len() != TAKEN_BYTES {
         return false;
     }
     rows::clear(new, 0);

@@ -1,29 +1,56 @@
 -- Adding shingles to their cells: five summands a cell, three cells a shingle, shingle after shingle.
-use Rattle.std.proofs.Common.{◌≡◌, ℕ, ◌+◌, ◌*◌, ◌%◌, ◌^◌, ◌<◌, ◌≤◌, Bool, true, false, cond, eqb, List, [], ◌∷◌, ◌++◌, length, take, sym, refl, ap, ◌∙◌, append_assoc, append-nil, mod-lt, add-one, arith, take_all, take-suc}
-use native.Mathlib.Nat.{mod-add-mod}
+use Rattle.std.proofs.Common.{◌≡◌, ℕ, zero, suc, ◌+◌, ◌*◌, ◌%◌, ◌^◌, ◌<◌, ◌≤◌, Bool, true, false, cond, eqb, List, [], ◌∷◌, ◌++◌, length, get_or, take, sym, refl, ap, ◌∙◌, append_assoc, append-nil, mod-lt, add-zero, add-one, arith, take_all, take-suc}
+use native.Mathlib.Nat.{mod-add-mod, mul-le-mul}
 use Rattle.shingle.specs.declared.Shingle.{Shingle}
 use Rattle.shingle.specs.Table.{shingle_in_table, shingles_in}
 use Rattle.shingle.proofs.Reading.{listed_at}
-use Rattle.sketch.specs.Sums.{Part, part, sum_at, neg, negated, with_sign, Added}
+use Rattle.sketch.specs.Sums.{Part, part, parts_from, sum_at, neg, negated, with_sign, Added}
 use Rattle.sketch.specs.Cells.{tail_of, tag_of, cell_of, five_parts, in_cell, parts_of, all_parts, CellOf}
 use Rattle.sketch.specs.Opening.{signed, signed_parts}
 use Rattle.sketch.proofs.Difference.{negated-append}
 use Rattle.sketch.proofs.Sums.{added_none, added_then, added_same}
 
-pub five_rows : {a b c d e f : List ℕ} (i : ℕ) {number previous own tail tag : ℕ} → Added a b (part (i * 5) number ∷ [])
-    → Added b c (part (i * 5 + 1) previous ∷ []) → Added c d (part (i * 5 + 2) own ∷ []) → Added d e (part (i * 5 + 3) tail ∷ [])
-    → Added e f (part (i * 5 + 4) tag ∷ []) → Added a f (five_parts i number previous own tail tag)
-unfolding five_parts
-five_rows i p q r s t = added_then p (added_then q (added_then r (added_then s t)))
+-- One row more of those that follow one another.
+parts_more : (k m : ℕ) (xs : List ℕ) → m < length xs → parts_from k (take (suc m) xs) ≡ parts_from k (take m xs) ++ (part (k + m) (get_or xs m 0) ∷ [])
+unfolding parts_from
+parts_more k m [] h = absurd (omega arith)
+parts_more k zero (x ∷ xs) h = ap (λ (n : ℕ). part n x ∷ []) (sym (add-zero k))
+parts_more k (suc m) (x ∷ xs) h =
+    ap (λ (l : List Part). part k x ∷ l)
+    (parts_more (k + 1) m xs (omega arith)
+    ∙ ap (λ (n : ℕ). parts_from (k + 1) (take m xs) ++ (part n (get_or xs m 0) ∷ [])) {x = k + 1 + m} {y = k + suc m} (omega arith))
+
+pub rows_start : (a : List ℕ) (k : ℕ) (xs : List ℕ) → Added a a (parts_from k (take 0 xs))
+unfolding parts_from
+rows_start a k xs = added_none a
+
+pub rows_next : {a b c : List ℕ} (k m : ℕ) (xs : List ℕ) → m < length xs → Added a b (parts_from k (take m xs))
+    → Added b c (part (k + m) (get_or xs m 0) ∷ []) → Added a c (parts_from k (take (m + 1) xs))
+rows_next k m xs h f g = rw (add-one m, parts_more k m xs h) (added_then f g)
+
+pub rows_end : {a b : List ℕ} (k m : ℕ) (xs : List ℕ) → length xs ≤ m → Added a b (parts_from k (take m xs)) → Added a b (parts_from k xs)
+rows_end k m xs h f = rw (take_all m xs h) at f
+
+-- The rows of a cell.
+five_from : (i a b c d e : ℕ) → parts_from (i * 5) (a ∷ b ∷ c ∷ d ∷ e ∷ []) ≡ five_parts i a b c d e
+unfolding parts_from five_parts
+five_from i a b c d e =
+    let second : i * 5 + 1 + 1 ≡ i * 5 + 2 = omega arith in
+    let third : i * 5 + 1 + 1 + 1 ≡ i * 5 + 3 = omega arith in
+    let fourth : i * 5 + 1 + 1 + 1 + 1 ≡ i * 5 + 4 = omega arith in
+    λ t. part (i * 5) a ∷ part (i * 5 + 1) b ∷ part (second t) c ∷ part (third t) d ∷ part (fourth t) e ∷ []
 
 -- The place of a cell.
-pub cell_is : (q j from hash : ℕ) (s : Shingle) → 1 ≤ q → q ≤ 64 → from ≤ 128 → from ≡ j * q → hash ≡ tag_of j s → CellOf q j s (from + hash % q)
+pub cell_is : (q j hash : ℕ) (s : Shingle) → 1 ≤ q → q ≤ 64 → j < 3 → hash ≡ tag_of j s → CellOf q j s (j * q + hash % q)
 unfolding cell_of
-cell_is q j from hash s low high far e h =
-    record { is = ap (λ (n : ℕ). n + hash % q) e ∙ ap (λ (n : ℕ). j * q + n % q) h; low = omega (arith, mod-lt hash low) }
-
-pub cell_fits : (q from hash : ℕ) → 1 ≤ q → q ≤ 64 → from ≤ 128 → from + hash % q < 2 ^ 64
-cell_fits q from hash low high far = omega (arith, mod-lt hash low)
+cell_is q j hash s low high third h =
+    record {
+      is = ap (λ (n : ℕ). j * q + n % q) h;
+      low =
+          let second : j ≤ 2 = omega arith in
+          let before : j * q ≤ 2 * 64 = mul-le-mul second high in
+          omega (arith, before, mod-lt hash low);
+    }
 
 -- A tail modulo 2^64 adds the same as the tail.
 tail_low : (b : Bool) (x y z t u : ℕ) → (x + (y + (z + (cond b (t % 2 ^ 64) 0 + u)))) % 2 ^ 64 ≡ (x + (y + (z + (cond b t 0 + u)))) % 2 ^ 64
@@ -79,22 +106,32 @@ unfolding with_sign in_cell negated five_parts
 five_signed true i s f = rw (neg_low (tail_of s)) at f
 five_signed false i s f = added_same _ _ (λ k. five_low k i 1 s.previous s.own (tail_of s) (tag_of 3 s)) f
 
-pub one_cell : {a c : List ℕ} (q j i : ℕ) (b : Bool) (s : Shingle) {number previous own tail tag : ℕ}
-    → CellOf q j s i → FiveOf b s number previous own tail tag
-    → Added a c (five_parts i number previous own tail tag) → Added a c (signed_cell b (cell_of q j s) s)
-one_cell q j i b s place five f =
-    five_signed b (cell_of q j s) s (rw (← place.is, ← five.one, ← five.before, ← five.self, ← five.low, ← five.check) f)
+-- What a shingle adds to the first j of its cells.
+unfoldable pub first_cells : Bool → ℕ → Shingle → ℕ → List Part
+first_cells b q s zero = []
+first_cells b q s (suc j) = first_cells b q s j ++ signed_cell b (cell_of q j s) s
 
-pub three_cells : {a c d e : List ℕ} (q : ℕ) (b : Bool) (s : Shingle)
-    → Added a c (signed_cell b (cell_of q 0 s) s) → Added c d (signed_cell b (cell_of q 1 s) s)
-    → Added d e (signed_cell b (cell_of q 2 s) s) → Added a e (signed_parts q (signed b s))
-unfolding signed_parts parts_of
-three_cells q true s one two three =
+pub no_cell : (a : List ℕ) (b : Bool) (q : ℕ) (s : Shingle) → Added a a (first_cells b q s 0)
+unfolding first_cells
+no_cell a b q s = added_none a
+
+pub one_cell : {a c d : List ℕ} (q j i : ℕ) (b : Bool) (s : Shingle) {number previous own tail tag : ℕ}
+    → CellOf q j s i → FiveOf b s number previous own tail tag → Added a c (first_cells b q s j)
+    → Added c d (parts_from (i * 5) (number ∷ previous ∷ own ∷ tail ∷ tag ∷ [])) → Added a d (first_cells b q s (j + 1))
+unfolding first_cells
+one_cell q j i b s {number} {previous} {own} {tail} {tag} place five e f =
+    let g = rw (five_from i number previous own tail tag, place.is, five.one, five.before, five.self, five.low, five.check) at f in
+    rw (add-one j) (added_then e (five_signed b (cell_of q j s) s g))
+
+pub three_cells : {a e : List ℕ} (q : ℕ) (b : Bool) (s : Shingle) → Added a e (first_cells b q s 3) → Added a e (signed_parts q (signed b s))
+unfolding signed_parts parts_of first_cells
+three_cells q true s f =
     let x = in_cell (cell_of q 0 s) s in
     let y = in_cell (cell_of q 1 s) s in
     let z = in_cell (cell_of q 2 s) s in
-    rw (negated-append x (y ++ z), negated-append y z) (added_then one (added_then two three))
-three_cells q false s one two three = added_then one (added_then two three)
+    rw (negated-append x (y ++ z), negated-append y z, ← append_assoc (negated x) (negated y) (negated z)) f
+three_cells q false s f =
+    rw (← append_assoc (in_cell (cell_of q 0 s) s) (in_cell (cell_of q 1 s) s) (in_cell (cell_of q 2 s) s)) f
 
 -- Building is a sum over the list.
 pub parts_append : (q : ℕ) (a b : List Shingle) → all_parts q (a ++ b) ≡ all_parts q a ++ all_parts q b

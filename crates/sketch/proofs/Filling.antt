@@ -1,5 +1,5 @@
 -- Each way out of filling a cell table is a case of the definition. A cleared table is a table of sums without summands.
-use Rattle.std.proofs.Common.{◌≡◌, ℕ, zero, suc, ◌+◌, ◌-◌, ◌*◌, ◌<◌, ◌≤◌, List, [], ◌∷◌, ◌++◌, length, take, drop, replicate, sym, refl, ap, ◌∙◌, append-nil, arith, take_at, drop_at, le-leb}
+use Rattle.std.proofs.Common.{false, ◌&&◌, nat_le, ◌≡◌, ℕ, zero, suc, ◌+◌, ◌-◌, ◌*◌, ◌<◌, ◌≤◌, List, [], ◌∷◌, ◌++◌, length, take, drop, replicate, sym, refl, ap, ◌∙◌, append-nil, arith, take_at, drop_at, le-leb}
 use borrow.Author.Tests.{lt-leb}
 use lib.ListN.{length-replicate, replicate-append-replicate}
 use Rattle.rows.specs.Rows.{bytes_of, clear_from}
@@ -22,13 +22,9 @@ no_sums n = zero_along n 0
 split_zeros : (m n : ℕ) → m ≤ n → replicate {A = ℕ} n 0 ≡ replicate m 0 ++ replicate (n - m) 0
 split_zeros m n h = ap (λ (k : ℕ). replicate {A = ℕ} k 0) {x = n} {y = m + (n - m)} (omega arith) ∙ sym (replicate-append-replicate m (n - m) 0)
 
-pub few_cells : (q : ℕ) (shingles t : List ℕ) → q < 1 → Filled q shingles t t 5
+pub no_width : (q : ℕ) (shingles t : List ℕ) → (nat_le 1 q && nat_le q 64) ≡ false → Filled q shingles t t 5
 unfolding fill_answer fill_table
-few_cells q shingles t h = record { answer = rw (lt-leb 1 q h); table = rw (lt-leb 1 q h) }
-
-pub many_cells : (q : ℕ) (shingles t : List ℕ) → 1 ≤ q → 64 < q → Filled q shingles t t 5
-unfolding fill_answer fill_table
-many_cells q shingles t low h = record { answer = rw (le-leb 1 q low, lt-leb q 64 h); table = rw (le-leb 1 q low, lt-leb q 64 h) }
+no_width q shingles t h = record { answer = rw h; table = rw h }
 
 pub short_table : (q : ℕ) (shingles t : List ℕ) → 1 ≤ q → q ≤ 64 → length t < q * 120 → Filled q shingles t t 7
 unfolding fill_answer fill_table

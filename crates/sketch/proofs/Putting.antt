@@ -1,7 +1,6 @@
 -- A shingle put into a cell table with a sign: lent bytes are their rows and fewer than eight bytes after them, and only the rows
 -- change.
-use Rattle.std.proofs.Common.{◌≡◌, ℕ, suc, ◌+◌, ◌*◌, ◌/◌, ◌%◌, ◌<◌, ◌≤◌, List, [], ◌∷◌, ◌++◌, length, get_or, drop, sym, refl, ap, ◌∙◌, arith, length-drop, le-leb}
-use borrow.Author.Tests.{lt-leb}
+use Rattle.std.proofs.Common.{false, ◌&&◌, nat_le, ◌≡◌, ℕ, suc, ◌+◌, ◌*◌, ◌/◌, ◌%◌, ◌<◌, ◌≤◌, List, [], ◌∷◌, ◌++◌, length, get_or, drop, sym, refl, ap, ◌∙◌, arith, length-drop, le-leb}
 use Rattle.rows.specs.Rows.{word_of, words_of, bytes_of}
 use Rattle.sketch.specs.Sums.{plus, row_bytes, Added}
 use Rattle.sketch.specs.Opening.{Signed, signed_parts}
@@ -64,13 +63,9 @@ rows_back (a ∷ b ∷ c ∷ d ∷ e ∷ f ∷ g ∷ h ∷ rest) s =
 rest_few : (t : List ℕ) → length (drop (length t / 8 * 8) t) < 8
 rest_few t = omega (arith, length-drop (length t / 8 * 8) t)
 
-pub put_few : (q : ℕ) (z : Signed) (t : List ℕ) → q < 1 → t ≡ put_in q z t
+pub no_put : (q : ℕ) (z : Signed) (t : List ℕ) → (nat_le 1 q && nat_le q 64) ≡ false → t ≡ put_in q z t
 unfolding put_in
-put_few q z t h = rw (lt-leb 1 q h)
-
-pub put_many : (q : ℕ) (z : Signed) (t : List ℕ) → 64 < q → t ≡ put_in q z t
-unfolding put_in
-put_many q z t h = rw (le-leb 1 q (omega arith), lt-leb q 64 h)
+no_put q z t h = rw h
 
 pub put_added : (q : ℕ) (z : Signed) (t t' : List ℕ) → 1 ≤ q → q ≤ 64 → ((i : ℕ) → get_or t i 0 < 256) → Added t t' (signed_parts q z) → t' ≡ put_in q z t
 unfolding put_in

@@ -1,27 +1,18 @@
 -- Subtracting row by row: the rows before k hold differences, and the rest of the table is as it was.
-use Rattle.std.proofs.Common.{◌≡◌, ℕ, zero, suc, ◌+◌, ◌*◌, ◌/◌, ◌%◌, ◌^◌, ◌<◌, List, [], ◌∷◌, ◌++◌, length, get_or, take, drop, sym, refl, ap, ◌∙◌, append_assoc, append-nil, mod-eq_of_lt, add-one, arith, drop_of_length-le, drop-drop, take_at, le-leb}
-use native.Mathlib.Nat.{mod-add-mod, add-mod}
+use Rattle.std.proofs.Common.{◌≡◌, ℕ, zero, suc, ◌+◌, ◌-◌, ◌*◌, ◌/◌, ◌%◌, ◌^◌, ◌<◌, List, [], ◌∷◌, ◌++◌, length, get_or, take, drop, sym, refl, ap, ◌∙◌, append_assoc, append-nil, add-one, arith, drop_of_length-le, drop-drop, take_at, le-leb}
 use lib.Seq.{drop-append-add}
 use Rattle.rows.specs.Rows.{words_of, bytes_of, store_of, Stored}
 use Rattle.sketch.specs.Sums.{Part, along, sums, neg, minus, difference_of, row_bytes, row_less, subtracted}
 use Rattle.sketch.proofs.Sums.{length-along, along_same, rows_append, length_rows, length-sums, words_sums}
-use Rattle.sketch.proofs.Difference.{neg_cancels}
 
--- The number that gives a with b is a less b.
-minus_only : (a b r : ℕ) → r < 2 ^ 64 → (r + b) % 2 ^ 64 ≡ a → r ≡ minus a b
-unfolding minus
-minus_only a b r h e =
-    sym (ap (λ (n : ℕ). (n + neg b) % 2 ^ 64) (sym e)
-    ∙ (mod-add-mod (r + b) (2 ^ 64) (neg b)
-    ∙ (ap (λ (n : ℕ). n % 2 ^ 64) {x = r + b + neg b} {y = b + neg b + r} (omega arith)
-    ∙ (add-mod (b + neg b) r (2 ^ 64)
-    ∙ (ap (λ (n : ℕ). (n + r % 2 ^ 64) % 2 ^ 64) (neg_cancels b) ∙ plain)))))
-  where
-    plain : (0 + r % 2 ^ 64) % 2 ^ 64 ≡ r
-    plain = ap (λ (n : ℕ). (0 + n) % 2 ^ 64) (mod-eq_of_lt h) ∙ (ap (λ (n : ℕ). n % 2 ^ 64) {x = 0 + r} {y = r} (omega arith) ∙ mod-eq_of_lt h)
+-- What is added in place of b to subtract it.
+minus_is : (a b : ℕ) → b < 2 ^ 64 → (a + (2 ^ 64 - b)) % 2 ^ 64 ≡ minus a b
+unfolding minus neg
+minus_is a b h = omega arith
 
-pub row_less_lem : (theirs own : List ℕ) (k a b r : ℕ) → a ≡ get_or (words_of theirs) k 0 → b ≡ get_or (words_of own) k 0 → r < 2 ^ 64 → (r + b) % 2 ^ 64 ≡ a → r ≡ row_less theirs own k
-row_less_lem theirs own k a b r e f h s = minus_only a b r h s ∙ (ap (λ (n : ℕ). minus n b) e ∙ ap (minus (get_or (words_of theirs) k 0)) f)
+pub row_less_lem : (theirs own : List ℕ) (k a b : ℕ) → a ≡ get_or (words_of theirs) k 0 → b ≡ get_or (words_of own) k 0 → b < 2 ^ 64
+    → (a + (2 ^ 64 - b)) % 2 ^ 64 ≡ row_less theirs own k
+row_less_lem theirs own k a b e f h = minus_is a b h ∙ (ap (λ (n : ℕ). minus n b) e ∙ ap (minus (get_or (words_of theirs) k 0)) f)
 
 along_last : (k i : ℕ) (f : ℕ → ℕ) → along (suc k) i f ≡ along k i f ++ (f (i + k) ∷ [])
 unfolding along

@@ -10,6 +10,11 @@ pub record Part : Type 0 where
 abbrev pub part : ℕ → ℕ → Part
 part row value = record { row = row; value = value }
 
+-- Summands of rows that follow one another, from row k on.
+unfoldable pub parts_from : ℕ → List ℕ → List Part
+parts_from k [] = []
+parts_from k (x ∷ xs) = part k x ∷ parts_from (k + 1) xs
+
 -- The sum of a row's summands.
 unfoldable pub sum_at : ℕ → List Part → ℕ
 sum_at k [] = 0

@@ -3,6 +3,7 @@
 
 mod adding;
 mod hashing;
+mod width;
 
 ghost use Rattle.std.specs.Prelude.{◌≡◌};
 ghost use Rattle.sketch.specs.Cells.{tag_of, Filled};
@@ -11,6 +12,7 @@ ghost use Rattle.sketch.specs.Putting.{put_in};
 ghost use Rattle.sketch.specs.Sums.{subtracted};
 
 use shingle::Shingle;
+pub use width::Width;
 
 // F(j) of a shingle: FNV-1a of the byte j followed by the shingle's 20 bytes.
 pub fn tag(j: u8, s: Shingle) -> u64
@@ -24,18 +26,15 @@ pub fn tag(j: u8, s: Shingle) -> u64
 pub fn fill_cells(q: u64, shingles: &[u8], cells: &mut [u8]) -> u64
     ensures { Filled q shingles.now cells.old cells.new result }
 {
-    if q < 1 {
+    let Some(width) = Width::new(q) else {
         return 5;
-    }
-    if q > 64 {
-        return 5;
-    }
-    let size = q as usize * 120;
+    };
+    let size = width.bytes();
     if cells.len() < size {
         return 7;
     }
     rows::clear(cells, 0);
-    adding::add_all(&mut cells[..size], q, shingles);
+    adding::add_all(&mut cells[..size], width, shingles);
     0
 }
 
@@ -44,13 +43,9 @@ pub fn fill_cells(q: u64, shingles: &[u8], cells: &mut [u8]) -> u64
 pub fn put(cells: &mut [u8], q: u64, negative: bool, s: Shingle)
     ensures { cells.new ≡ put_in q (signed negative s) cells.old }
 {
-    if q == 0 {
-        return;
+    if let Some(width) = Width::new(q) {
+        adding::add_shingle(cells, width, negative, s);
     }
-    if 64 < q {
-        return;
-    }
-    adding::add_shingle(cells, q, negative, s);
 }
 
 // Subtracts own cells from the sender's, row by row modulo 2^64, into the rows of a third table. Where one of the two has no such
@@ -58,13 +53,8 @@ pub fn put(cells: &mut [u8], q: u64, negative: bool, s: Shingle)
 pub fn subtract(theirs: &[u8], own: &[u8], cells: &mut [u8])
     ensures { cells.new ≡ subtracted theirs.now own.now cells.old }
 {
-    let n = cells.len() / 8;
-    let mut k = 0;
-    while k < n {
-        let a = rows::load(theirs, k);
-        let b = rows::load(own, k);
-        let less = std::num::wrapping_sub_u64(a, b);
+    for k in 0..cells.len() / 8 {
+        let less = rows::load(theirs, k).wrapping_sub(rows::load(own, k));
         rows::store(cells, k, less);
-        k += 1;
     }
 }

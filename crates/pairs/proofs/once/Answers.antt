@@ -1,12 +1,10 @@
 -- What is kept is noted, then what is new: the laws of `Answer`.
-use mathlib.Core.Path.{sym}
-use borrow.Author.Rules.{rules}
-use lib.Seq.{length-take-le}
+use Rattle.std.proofs.Common.{sym, length-take-le, rules}
 use Rattle.pairs.proofs.Answer.{too_many, few}
 use Rattle.pairs.proofs.once.Goals as goal
 
-pub returns-then-all-gt4096 : goal.returns-then-all-gt4096
-returns-then-all-gt4096 c = too_many _ _ _ _ _ _ _ _ c.note-kept.ensures c.note-all.ensures (search rules)
+pub returns-then-all-gt-MAX_SHINGLES : goal.returns-then-all-gt-MAX_SHINGLES
+returns-then-all-gt-MAX_SHINGLES c = too_many _ _ _ _ _ _ _ _ c.note-kept.ensures c.note-all.ensures (search rules)
 
 pub slice_bounds-none_twice-end : goal.slice_bounds-none_twice-end
 slice_bounds-none_twice-end c = sym (length-take-le _ _ (search rules))

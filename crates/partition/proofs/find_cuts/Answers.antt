@@ -1,56 +1,34 @@
-use mathlib.Core.Path.{refl, sym}
-use Prim.Native.Nat.{◌-◌}
-use native.Mathlib.Omega.{arith}
-use Rattle.partition.proofs.Search.{going_first, going_past, going_on, found_full, found_all, found_same, floor_after}
+use Rattle.std.proofs.Common.{refl, arith}
+use Rattle.partition.proofs.Search.{going_first, going_on, found_full, found_all, found_same, floor_after}
 use Rattle.partition.proofs.find_cuts.Goals as goal
 
-pub returns-then-end-h : goal.returns-then-end-h
-returns-then-end-h c = found_all _ _ _ _ _ _ _ (going_first _ _ _ _ _ refl refl) (omega arith)
+pub returns-then-range_end-h : goal.returns-then-range_end-h
+returns-then-range_end-h c = found_all _ _ _ _ _ _ _ (going_first _ _ _ _ _ refl refl) (λ x low high. absurd (omega arith))
 
-pub loop-a-init : goal.loop-a-init
-loop-a-init c = (going_first _ _ _ _ _ refl refl, record { before = λ j a b. omega arith })
+pub loop-cut-init : goal.loop-cut-init
+loop-cut-init c = record {
+  going = going_first _ _ _ _ _ refl refl;
+  floor = record { before = λ j low high. omega arith };
+}
 
-pub slice_bounds-next_candidate-end : goal.slice_bounds-next_candidate-end
-slice_bounds-next_candidate-end c = sym c.table-table.ensures.long
+pub returns-then-n-eq-MAX_CUTS : goal.returns-then-n-eq-MAX_CUTS
+returns-then-n-eq-MAX_CUTS c =
+    let block = c.new-block.result in
+    let next = c.in-Some.ensures in
+    found_same _ _ _ _ c.new-block.ensures.sized _ _ c.new-block.ensures.bytes c.new-block.ensures.distance
+    (found_full _ _ _ _ _ _ _ _ _ c.loop-cut.invariant.going next.1.first _ refl (omega (arith, block.ends)) next.0 c.if-n-eq-MAX_CUTS.true)
 
-pub next_candidate-cut-requires-clause-spreads : goal.next_candidate-cut-requires-clause-spreads
-next_candidate-cut-requires-clause-spreads c = c.table-table.ensures
-
-pub next_candidate-cut-requires-clause-le_modulus : goal.next_candidate-cut-requires-clause-le_modulus
-next_candidate-cut-requires-clause-le_modulus c = c.window_of-window.ensures.reduces.some
-
-pub next_candidate-cut-requires-clause-floor : goal.next_candidate-cut-requires-clause-floor
-next_candidate-cut-requires-clause-floor c = c.loop-a.invariant.1
-
-pub next_candidate-cut-requires-clause-h_le_from : goal.next_candidate-cut-requires-clause-h_le_from
-next_candidate-cut-requires-clause-h_le_from c = omega arith
-
-pub next_candidate-cut-requires-clause-from_lt_end : goal.next_candidate-cut-requires-clause-from_lt_end
-next_candidate-cut-requires-clause-from_lt_end c = omega arith
-
-pub next_candidate-cut-requires-clause-h_in_bounds : goal.next_candidate-cut-requires-clause-h_in_bounds
-next_candidate-cut-requires-clause-h_in_bounds c = omega arith
-
-pub returns-then-end-p : goal.returns-then-end-p
-returns-then-end-p c =
-    let past = going_past _ _ _ _ _ _ _ _ _ c.loop-a.invariant.0 c.next_candidate-cut.ensures.first c.if-end-p.true in
-    found_same _ _ _ _ c.window_of-window.ensures _ _ (found_all _ _ _ _ _ _ _ past (omega arith))
-
-pub returns-then-n-eq31 : goal.returns-then-n-eq31
-returns-then-n-eq31 c =
-    found_same _ _ _ _ c.window_of-window.ensures _ _
-    (found_full _ _ _ _ _ _ _ _ _ c.loop-a.invariant.0
-    c.next_candidate-cut.ensures.first
-    _
-    c.step-step.ensures
-    (omega arith)
-    c.if-end-p.false c.if-n-eq31.true)
-
-pub loop-a-preserved : goal.loop-a-preserved
-loop-a-preserved c = (
-  going_on _ _ _ _ _ _ _ _ _ c.loop-a.invariant.0 c.next_candidate-cut.ensures.first _ c.step-step.ensures (omega arith) c.if-end-p.false c.if-n-eq31.false,
-  floor_after _ _ _ _ _ _ _ (c.next_candidate-cut.ensures.first.found c.if-end-p.false) (c.next_candidate-cut.ensures.value c.if-end-p.false) c.step-step.ensures,
-)
+pub loop-cut-preserved : goal.loop-cut-preserved
+loop-cut-preserved c =
+    let block = c.new-block.result in
+    let next = c.in-Some.ensures in
+    record {
+      going = going_on _ _ _ _ _ _ _ _ _ c.loop-cut.invariant.going next.1.first _ c.step.ensures (omega (arith, block.ends)) next.0 c.if-n-eq-MAX_CUTS.false;
+      floor = floor_after _ _ _ _ _ _ _ (next.1.first.found next.0) (next.1.value next.0) c.step.ensures;
+    }
 
 pub returns : goal.returns
-returns c = found_same _ _ _ _ c.window_of-window.ensures _ _ (found_all _ _ _ _ _ _ _ c.loop-a.invariant.0 (omega arith))
+returns c =
+    let block = c.new-block.result in
+    found_same _ _ _ _ c.new-block.ensures.sized _ _ c.new-block.ensures.bytes c.new-block.ensures.distance
+    (found_all _ _ _ _ _ _ _ c.loop-cut.invariant.going (λ x low high. c.in_default.ensures x low (omega (arith, block.ends))))

@@ -1,13 +1,16 @@
--- `find_cuts` meets its contract. The invariant: the cuts found, followed by those from a on, are all cuts, and the h positions before a have
--- no value below `floor`.
-use Prim.Native.Nat.{◌-◌}
-use Rattle.partition.specs.Cuts.{value_at}
+-- `find_cuts` meets its contract. The invariant: the cuts found, followed by those from a position on, are all cuts, and the positions before it within
+-- the distance have no value below `floor`.
+use Rattle.std.proofs.Common.{◌-◌}
+use Rattle.partition.specs.Places.{values}
 use Rattle.partition.specs.Scans.{Floor}
 use Rattle.partition.proofs.Search.{Going}
 use Rattle.partition.proofs.find_cuts.Given as goal
 
-abbrev pub invariant-loop-a : goal.invariant-loop-a
-invariant-loop-a l = Going l.window.width l.h l.window.modulus l.bytes l.at l.n l.a × Floor (value_at l.window.width l.window.modulus l.bytes) l.h l.floor l.a
+abbrev pub invariant-loop-cut : goal.invariant-loop-cut
+invariant-loop-cut l = record {
+  going : Going l.block.width l.block.distance l.block.modulus l.block.bytes.now l.at l.n l.from;
+  floor : Floor (values l.block) l.block.distance l.floor l.from;
+}
 
-abbrev pub decreases-loop-a : goal.decreases-loop-a
-decreases-loop-a l = l.end - l.a
+abbrev pub decreases-loop-cut : goal.decreases-loop-cut
+decreases-loop-cut l = l.block.end - l.from

@@ -1,21 +1,18 @@
 -- Refused, or a table of zeros to which the list's shingles are added: the laws of `Filling`.
-use Rattle.std.proofs.Common.{◌*◌, sym, arith, length-take-le, rules}
-use Rattle.sketch.proofs.Filling.{few_cells, many_cells, short_table, filled}
+use Rattle.std.proofs.Common.{arith}
+use Rattle.sketch.proofs.Filling.{no_width, short_table, filled}
 use Rattle.sketch.proofs.fill_cells.Goals as goal
 
-pub returns-then-q-lt1 : goal.returns-then-q-lt1
-returns-then-q-lt1 c = few_cells _ _ _ (search rules)
-
-pub returns-then-q-gt64 : goal.returns-then-q-gt64
-returns-then-q-gt64 c = many_cells _ _ _ (search rules) (search rules)
+pub returns-in_default : goal.returns-in_default
+returns-in_default c = no_width _ _ _ c.in_default.ensures
 
 pub returns-then-cells-size : goal.returns-then-cells-size
-returns-then-cells-size c = short_table _ _ _ (search rules) (search rules) (search rules)
-
-pub slice_bounds-add_all-end-2 : goal.slice_bounds-add_all-end-2
-slice_bounds-add_all-end-2 c =
-    let args = c.args in
-    sym (length-take-le (args.q * 120) _ (search rules))
+returns-then-cells-size c =
+    let width = c.in-Some.width in
+    short_table _ _ _ (omega (arith, c.in-Some.ensures, width.some)) (omega (arith, c.in-Some.ensures, width.few)) (omega (arith, c.in-Some.ensures))
 
 pub returns : goal.returns
-returns c = filled _ _ _ _ _ (omega (arith, c.if-q-lt1.false)) (omega (arith, c.if-q-gt64.false)) (omega (arith, c.if-cells-size.false)) c.clear.ensures c.add_all.ensures
+returns c =
+    let width = c.in-Some.width in
+    rw (← c.in-Some.ensures, c.bytes-size.ensures)
+    (filled _ _ _ _ _ width.some width.few (omega arith) c.clear.ensures (rw c.bytes-size.ensures at c.add_all.ensures))

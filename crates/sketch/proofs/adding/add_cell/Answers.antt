@@ -1,6 +1,12 @@
--- Five rows, one after the other: the law `five_rows`.
-use Rattle.sketch.proofs.Cells.{five_rows}
+use Rattle.std.proofs.Common.{arith}
+use Rattle.sketch.proofs.Cells.{rows_start, rows_next, rows_end}
 use Rattle.sketch.proofs.adding.add_cell.Goals as goal
 
+pub loop-m-init : goal.loop-m-init
+loop-m-init c = rows_start _ _ c.args.values.now
+
+pub loop-m-preserved : goal.loop-m-preserved
+loop-m-preserved c = rows_next _ _ _ (omega arith) c.loop-m.invariant c.add_row.ensures
+
 pub returns : goal.returns
-returns c = five_rows _ c.add_row.ensures c.add_row-2.ensures c.add_row-3.ensures c.add_row-4.ensures c.add_row-5.ensures
+returns c = rows_end _ _ _ (omega arith) c.loop-m.invariant

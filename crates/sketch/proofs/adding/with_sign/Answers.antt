@@ -3,7 +3,7 @@ use Rattle.sketch.proofs.Cells.{plain_value, negative_value}
 use Rattle.sketch.proofs.adding.with_sign.Goals as goal
 
 pub returns-then-negative : goal.returns-then-negative
-returns-then-negative c = negative_value _ _ _ c.if-negative.true c.wrapping_sub_u64.type_inv c.wrapping_sub_u64.ensures.value
+returns-then-negative c = negative_value _ _ _ c.if-negative.true c.wrapping_neg.type_inv c.wrapping_neg.ensures
 
-pub returns : goal.returns
-returns c = plain_value _ _ c.if-negative.false
+pub returns-else-negative : goal.returns-else-negative
+returns-else-negative c = plain_value _ _ c.if-negative.false

@@ -1,0 +1,15 @@
+-- `slide` meets its contract: each product fits, and the factor is the definition's.
+use Rattle.std.proofs.Common.{arith, ◌+◌, ◌*◌}
+use Rattle.partition.specs.Sliding.{leaving_of, slid}
+use Rattle.partition.proofs.Reading.{early_factor}
+use Rattle.partition.proofs.Shifted.{product_small}
+use Rattle.partition.proofs.block.Block.slide.Goals as goal
+
+pub overflow_mul-left : goal.overflow_mul-left
+overflow_mul-left c = omega (arith, product_small c.args.old c.args.self.now.leaving (omega arith) (omega (arith, c.args.self.now.leaves)))
+
+pub returns : goal.returns
+unfolding slid
+returns c =
+    let a = c.args in
+    omega (arith, early_factor (a.x * 257 + a.new) a.old (leaving_of a.self.now.width) a.self.now.leaves)
