@@ -2,14 +2,17 @@
 ghost use Rattle.std.specs.Prelude.{◌≡◌, ◌*◌, ◌≤◌, length};
 ghost use Rattle.announced.specs.Cells.{value_count, cell_table, Copied};
 
+// The greatest sketch width q, and the values for each of q: three cells of five values.
+const WIDEST: u64 = 64;
+
+const VALUES: usize = 15;
+
 // How many values are copied: 15 for each of q, and q above 64 counts as 64.
+#[tactic(auto, unfolding(crate::specs::Cells::value_count))]
 fn count(q: u64) -> usize
     ensures { result ≡ value_count q }
 {
-    if q > 64 {
-        return 960;
-    }
-    q as usize * 15
+    q.min(WIDEST) as usize * VALUES
 }
 
 // Copies the first `values` values of a message's cells, which start at word 11, to the first rows of the table.
@@ -17,11 +20,9 @@ fn copy_cells(message: &[u8], values: usize, table: &mut [u8])
     requires { values * 8 ≤ length table.old }
     ensures { Copied message.now values table.old table.new }
 {
-    let mut k = 0;
-    while k < values {
+    for k in 0..values {
         let x = message::reader::cell_value(message, 11, k);
         rows::store(table, k, x);
-        k += 1;
     }
 }
 

@@ -1,4 +1,5 @@
 -- Each way out of composing is a case of its definition.
+use Rattle.std.proofs.Common.{Some}
 use mathlib.Core.Bool.{Bool, true, false, cond, ◌&&◌, false≢true}
 use mathlib.Core.List.{List, ◌++◌}
 use mathlib.Core.Option.{Option}
@@ -19,20 +20,16 @@ use Rattle.message.specs.Words.{Ref}
 use Rattle.protocol.specs.Numbers.{meant_by, rightly}
 use Rattle.protocol.specs.Receiver.{all_named, previouses, owns, counts, composes}
 use Rattle.composition.specs.declared.Children.{Children}
-use Rattle.composition.specs.declared.table.Table.{Table}
 use Rattle.composition.specs.Composition.{refused, composed_children}
 use Rattle.composition.specs.Table.{Columns, Filled}
 use Rattle.composition.proofs.Padding.{total-padded, trails_padded}
 use Rattle.composition.proofs.Passing.{Passed, passed, passes}
 
 -- The trail over the table of the references' pairs is the trail over the pairs.
-module _ (list : List Shingle) (level : ℕ) (trail : Option ℕ) (refs : List Ref) (table : Table) (filled : Filled list level refs table)
-    (all : table.named ≡ true) (order : Trail) (is : order ≡ order_answer table.pairs (meant_by trail)) where
-  abbrev pairs : Pairs
-  pairs = table.pairs
-
+module _ (list : List Shingle) (level : ℕ) (trail : Option ℕ) (refs : List Ref) (pairs : Pairs) (filled : Filled list level refs (Some pairs))
+    (order : Trail) (is : order ≡ order_answer pairs (meant_by trail)) where
   columns : Columns list refs pairs.previous pairs.own pairs.count
-  columns = filled.columns all
+  columns = filled.1
 
   same_total : total pairs.count ≡ total (counts refs)
   same_total = ap total columns.count_is ∙ total-padded (counts refs)
@@ -94,7 +91,7 @@ module _ (list : List Shingle) (level : ℕ) (trail : Option ℕ) (refs : List R
         let m = a.2 in
         record {
           level = low;
-          named = ap (λ (x : ℕ). all_named list x refs) (sym e) ∙ (sym filled.is ∙ all);
+          named = ap (λ (x : ℕ). all_named list x refs) (sym e) ∙ filled.0;
           some = omega (arith, same_total);
           few = omega (arith, same_total);
           small = omega arith;
@@ -128,22 +125,22 @@ module _ (σ : Settings) (list : List Shingle) (l : ℕ) (trail : Option ℕ) (r
   pub too_many : (count : ℕ) → length refs ≡ count → (r : Children) → r ≡ refused → 32 < count → r ≡ composed_children σ list l trail refs rest
   too_many count long r e h = e ∙ none_given (λ few p. omega arith)
 
-  module _ (table : Table) (filled : Filled list (l + 1) refs table) where
-    pub one_unnamed : (r : Children) → r ≡ refused → table.named ≡ false → r ≡ composed_children σ list l trail refs rest
-    one_unnamed r e f = e ∙ none_given (λ few p. false≢true (sym f ∙ (filled.is ∙ p.named)))
+  pub one_unnamed : all_named list (l + 1) refs ≡ false → (r : Children) → r ≡ refused → r ≡ composed_children σ list l trail refs rest
+  one_unnamed f r e = e ∙ none_given (λ few p. false≢true (sym f ∙ p.named))
 
-    module _ (all : table.named ≡ true) (order : Trail) (is : order ≡ order_answer table.pairs (meant_by trail)) where
+  module _ (pairs : Pairs) (filled : Filled list (l + 1) refs (Some pairs)) where
+    module _ (order : Trail) (is : order ≡ order_answer pairs (meant_by trail)) where
       pub no_trail : (r : Children) → r ≡ refused → order.k ≡ 0 → r ≡ composed_children σ list l trail refs rest
-      no_trail r e z = e ∙ none_given (λ few p. trail_there list (l + 1) trail refs table filled all order is σ l rest p z)
+      no_trail r e z = e ∙ none_given (λ few p. trail_there list (l + 1) trail refs pairs filled order is σ l rest p z)
 
       module _ (some : order.k ≡ 0 → ⊥) where
         abbrev size : order.k ≡ total (counts refs)
-        size = size_is list (l + 1) trail refs table filled all order is some
+        size = size_is list (l + 1) trail refs pairs filled order is some
 
         -- The number is carried where there is no other trail, or omitted where there is one.
         pub carried_wrongly : (r : Children) → r ≡ refused → rightly trail order.only ≡ false → r ≡ composed_children σ list l trail refs rest
         carried_wrongly r e f =
-            let only = only_is list (l + 1) trail refs table filled all order is some in
+            let only = only_is list (l + 1) trail refs pairs filled order is some in
             e ∙ none_given (λ few p. false≢true (sym f ∙ (ap (rightly trail) only ∙ p.carried)))
 
         pub pile_too_high : (r : Children) → r ≡ refused → 128 - order.k < rest → r ≡ composed_children σ list l trail refs rest
@@ -156,6 +153,6 @@ module _ (σ : Settings) (list : List Shingle) (l : ℕ) (trail : Option ℕ) (r
         composed count long few low carried h =
             rw (
               le-leb (length refs) 32 (omega arith),
-              passes σ list l trail refs rest (accepted list (l + 1) trail refs table filled all order is some σ l rest refl low carried h),
+              passes σ list l trail refs rest (accepted list (l + 1) trail refs pairs filled order is some σ l rest refl low carried h),
             )
-            (λ i. record { composed = true; count = size i; ids = ids_are list (l + 1) trail refs table filled all order is some i })
+            (λ i. record { composed = true; count = size i; ids = ids_are list (l + 1) trail refs pairs filled order is some i })

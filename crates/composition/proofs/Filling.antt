@@ -1,5 +1,6 @@
 -- References looked up one by one, and their pairs put into the columns of a table.
-use mathlib.Core.Bool.{Bool, true, false, ◌&&◌, false≢true}
+use Rattle.std.proofs.Common.{None, Some}
+use mathlib.Core.Bool.{Bool, true, false, ◌&&◌}
 use mathlib.Core.List.{List, [], ◌∷◌, ◌++◌, map, map-append}
 use mathlib.Core.Path.{◌≡◌, refl, sym, ap, ◌∙◌}
 use Prim.Native.Nat.{ℕ, zero, suc, ◌+◌, ◌-◌, ◌≤◌, ◌<◌}
@@ -17,8 +18,6 @@ use Rattle.message.specs.Parts.{ReferenceRead}
 use Rattle.protocol.specs.Receiver.{named, is_named, all_named, previouses, owns, counts}
 use Rattle.composition.specs.Composition.{refs_from, refs_in}
 use Rattle.composition.specs.Table.{ref, Named, padded, Columns, Filled}
-use Rattle.composition.specs.declared.table.Row.{Row}
-use Rattle.composition.specs.declared.table.Table.{Table}
 
 -- A list of references in two parts.
 refs_split : (ws : List ℕ) (m k n at : ℕ) → m ≡ k + n → refs_from ws m at ≡ refs_from ws k at ++ refs_from ws n (at + k)
@@ -69,16 +68,13 @@ module _ (list : List Shingle) (level : ℕ) where
       go false h = refl
 
 -- Each way out of looking a reference up.
-unnamed_row : (list : List Shingle) (level : ℕ) (r : Ref) (row : Row) → row.named ≡ false → is_named list level r ≡ false → Named list level r row
-unnamed_row list level r row e f =
-    record { is = e ∙ sym f; previous_is = λ h. absurd (false≢true (sym e ∙ h)); own_is = λ h. absurd (false≢true (sym e ∙ h)) }
-
 module _ (shingles : List ℕ) (size level index count : ℕ) (long : size ≡ length (shingles_in shingles)) where
   abbrev list : List Shingle
   list = shingles_in shingles
 
-  pub index_beyond : (row : Row) → row.named ≡ false → size ≤ index → Named list level (ref index count) row
-  index_beyond row e h = unnamed_row list level (ref index count) row e (unfold is_named in rw (le-ltb index (length list) (omega arith)))
+  pub index_beyond : size ≤ index → is_named list level (ref index count) ≡ false
+  unfolding is_named
+  index_beyond h = rw (le-ltb index (length list) (omega arith))
 
   module _ (h : index < size) (s : Shingle) (is : s ≡ shingle_in_table shingles index) where
     here : named list (ref index count) ≡ s
@@ -88,21 +84,15 @@ module _ (shingles : List ℕ) (size level index count : ℕ) (long : size ≡ l
     unfolding is_named
     test = rw (here, lt-ltb index (length list) (omega arith))
 
-    pub level_other : (row : Row) → row.named ≡ false → (s.level ≡ level → ⊥) → Named list level (ref index count) row
-    level_other row e f = unnamed_row list level (ref index count) row e (test ∙ rw (ne_eqb s.level level f))
+    pub level_other : (s.level ≡ level → ⊥) → is_named list level (ref index count) ≡ false
+    level_other f = test ∙ rw (ne_eqb s.level level f)
 
     module _ (f : s.level ≡ level) where
-      pub count_above : (row : Row) → row.named ≡ false → s.count < count → Named list level (ref index count) row
-      count_above row e g =
-          unnamed_row list level (ref index count) row e (test ∙ rw (eq-eqb s.level level f, lt-leb count s.count g))
+      pub count_above : s.count < count → is_named list level (ref index count) ≡ false
+      count_above g = test ∙ rw (eq-eqb s.level level f, lt-leb count s.count g)
 
-      pub row_found : count ≤ s.count → Named list level (ref index count) (record { named = true; previous = s.previous; own = s.own })
-      row_found g =
-          record {
-            is = sym (test ∙ rw (eq-eqb s.level level f, le-leb count s.count g));
-            previous_is = λ e. ap (λ (x : Shingle). x.previous) (sym here);
-            own_is = λ e. ap (λ (x : Shingle). x.own) (sym here);
-          }
+      pub found : count ≤ s.count → Named list level (ref index count) (Some s)
+      found g = (test ∙ rw (eq-eqb s.level level f, le-leb count s.count g), sym here)
 
 -- One number more in a column.
 column_more : (f : Ref → ℕ) (column : List ℕ) (refs : List Ref) (r : Ref) (x k : ℕ) → length refs ≡ k → k < 32
@@ -132,37 +122,33 @@ fill_start list level message at count =
 
 module _ (list : List Shingle) (level : ℕ) (message : List ℕ) (at count k : ℕ) (previous own times : List ℕ)
     (c : Filling list level message at count k previous own times) where
-  module _ (h : k < count) (r : Ref) (read : ReferenceRead message at k r) (row : Row) (look : Named list level r row) where
-    pub fill_stop : (table : Table) → table.named ≡ false → row.named ≡ false → Filled list level (refs_in message at count) table
-    fill_stop table e f =
+  module _ (h : k < count) (r : Ref) (read : ReferenceRead message at k r) where
+    pub fill_stop : Named list level r None → all_named list level (refs_in message at count) ≡ false
+    fill_stop unnamed =
         let n = count - (k + 1) in
         let parts : refs_in message at count ≡ refs_in message at k ++ r ∷ refs_from (link_words message) n (at + k + 1) =
         refs_around message at count k n r (omega arith) read in
-        record {
-          is =
-              e ∙ sym (ap (all_named list level) parts
-              ∙ unnamed_among list level (refs_in message at k) r (refs_from (link_words message) n (at + k + 1)) (sym look.is ∙ f));
-          columns = λ g. absurd (false≢true (sym e ∙ g));
-        }
+        ap (all_named list level) parts
+        ∙ unnamed_among list level (refs_in message at k) r (refs_from (link_words message) n (at + k + 1)) unnamed
 
-    pub fill_next : count ≤ 32 → row.named ≡ true
-        → Filling list level message at count (k + 1) (set previous k row.previous) (set own k row.own) (set times k r.count)
-    fill_next few e =
+    pub fill_next : (s : Shingle) → Named list level r (Some s) → count ≤ 32
+        → Filling list level message at count (k + 1) (set previous k s.previous) (set own k s.own) (set times k r.count)
+    fill_next s look few =
         let long : length (refs_in message at k) ≡ k = length_refs message at k in
         let more : refs_in message at (k + 1) ≡ refs_in message at k ++ r ∷ [] =
         unfold refs_from in refs_around message at (k + 1) k 0 r (omega arith) read in
         record {
           fits = omega arith;
-          named_all = ap (all_named list level) more ∙ named_so_far list level (refs_in message at k) r c.named_all (sym look.is ∙ e);
+          named_all = ap (all_named list level) more ∙ named_so_far list level (refs_in message at k) r c.named_all look.0;
           columns =
               record {
                 previous_is =
-                    column_more (λ (x : Ref). (named list x).previous) previous (refs_in message at k) r row.previous k long (omega arith)
-                    c.columns.previous_is (look.previous_is e)
+                    column_more (λ (x : Ref). (named list x).previous) previous (refs_in message at k) r s.previous k long (omega arith)
+                    c.columns.previous_is (ap (λ (x : Shingle). x.previous) look.1)
                     ∙ ap (λ (l : List Ref). padded (previouses list l)) (sym more);
                 own_is =
-                    column_more (λ (x : Ref). (named list x).own) own (refs_in message at k) r row.own k long (omega arith) c.columns.own_is
-                    (look.own_is e)
+                    column_more (λ (x : Ref). (named list x).own) own (refs_in message at k) r s.own k long (omega arith) c.columns.own_is
+                    (ap (λ (x : Shingle). x.own) look.1)
                     ∙ ap (λ (l : List Ref). padded (owns list l)) (sym more);
                 count_is =
                     column_more (λ (x : Ref). x.count) times (refs_in message at k) r r.count k long (omega arith) c.columns.count_is refl
@@ -171,8 +157,8 @@ module _ (list : List Shingle) (level : ℕ) (message : List ℕ) (at count k : 
         }
 
   pub fill_end : count ≤ k
-      → Filled list level (refs_in message at count) (record { named = true; pairs = record { previous = previous; own = own; count = times } })
+      → Filled list level (refs_in message at count) (Some (record { previous = previous; own = own; count = times }))
   fill_end h =
       let fits = c.fits in
       let done : refs_in message at k ≡ refs_in message at count = ap (refs_in message at) {x = k} {y = count} (omega arith) in
-      record { is = sym (ap (all_named list level) (sym done) ∙ c.named_all); columns = λ e. rw (← done) c.columns }
+      (ap (all_named list level) (sym done) ∙ c.named_all, rw (← done) c.columns)

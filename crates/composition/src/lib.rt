@@ -68,17 +68,11 @@ pub fn children_of(
     if 32 < count {
         return refuse();
     }
-    let table = fill(
-        shingles,
-        message,
-        references_from(numbered),
-        level + 1,
-        count,
-    );
-    if !table.named {
+    let references = references_from(numbered);
+    let Some(pairs) = fill(shingles, message, references, level + 1, count) else {
         return refuse();
-    }
-    let order = trail::order(table.pairs, meant(numbered, number));
+    };
+    let order = trail::order(pairs, meant(numbered, number));
     let k = order.k;
     if k == 0 {
         return refuse();

@@ -66,11 +66,12 @@ module _ (string nodes : List ℕ) (size : ℕ) (before : List ℕ) (built waiti
           over = λ f. absurd (false≢true (sym f));
         }
 
-    pub none_pending : more ≤ 0 → Copies string nodes size before now built waiting places (record { fits = true; built = at; waiting = more })
+    pub none_pending : more ≤ 0 → Copies string nodes size before now built waiting places (record { fits = true; built = at; waiting = 0 })
     unfolding settle pile_of
     none_pending h =
         let zero_left : more ≡ 0 = omega (arith, h) in
-        stays (ap (from at now) zero_left ∙ ap (λ (k : ℕ). left (take at now) (pile_of k places)) (sym zero_left))
+        subst (λ (k : ℕ). Copies string nodes size before now built waiting places (record { fits = true; built = at; waiting = k })) zero_left
+        (stays (ap (from at now) zero_left ∙ ap (λ (k : ℕ). left (take at now) (pile_of k places)) (sym zero_left)))
 
     -- The top of the pile.
     module _ (some_left : 0 < more) (id : ℕ) (top : id ≡ (get_or places (more - 1) empty).id) where
@@ -126,8 +127,9 @@ module _ (string nodes : List ℕ) (size : ℕ) (before : List ℕ) (built waiti
   -- The same of what was found at a place.
   module _ (now : List ℕ) (at more : ℕ) (t : Turning now at more) (some_left : 0 < more) (id : ℕ) (top : id ≡ (get_or places (more - 1) empty).id)
       (p : Place) (f : Finds string nodes id p) where
-    pub not_there : p.there ≡ false → Copies string nodes size before now built waiting places (record { fits = true; built = at; waiting = more })
-    not_there e = unknown now at more t some_left id top (f.missing e)
+    pub not_there : p.there ≡ false → (pending : ℕ) → pending ≡ more
+        → Copies string nodes size before now built waiting places (record { fits = true; built = at; waiting = pending })
+    not_there e pending same = rw same (unknown now at more t some_left id top (f.missing e))
 
     pub too_much : p.there ≡ true → size - at < p.size → settled_from string nodes size before built waiting places ≡ too_long
     too_much e h =

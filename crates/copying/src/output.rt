@@ -7,10 +7,8 @@ pub fn append(part: &mut [u8], bytes: &[u8])
     requires { length bytes.now ≤ length part.old }
     ensures { Appended part.old bytes.now part.new }
 {
-    let n = bytes.len();
-    let mut j = 0;
-    while j < n {
-        part[j] = bytes[j];
-        j += 1;
+    // No `copy_from_slice`: it calls memmove, and the library for C is to need nothing but memcpy and memset.
+    for (j, byte) in bytes.iter().enumerate() {
+        part[j] = *byte;
     }
 }

@@ -30,15 +30,14 @@ pub fn copy_known(
     ensures { Copies string.now nodes.now size output.old output.new built waiting pile result }
 {
     let mut at = built;
-    let mut left = waiting;
-    while 0 < left {
-        let top = pile[left - 1];
+    for below in (0..waiting).rev() {
+        let top = pile[below];
         let place = find(string, nodes, top.id);
         if !place.there {
             return Copied {
                 fits: true,
                 built: at,
-                waiting: left,
+                waiting: below + 1,
             };
         }
         let start = place.start;
@@ -48,11 +47,10 @@ pub fn copy_known(
         }
         output::append(&mut output[at..], &string[start..start + more]);
         at += more;
-        left -= 1;
     }
     Copied {
         fits: true,
         built: at,
-        waiting: left,
+        waiting: 0,
     }
 }

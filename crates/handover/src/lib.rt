@@ -5,6 +5,14 @@ ghost use Rattle.handover.specs.Handover.{Refused, Concluded};
 
 use copying::Waiting;
 
+// A string that is handed over is answered by this and its length.
+const HANDED_OVER: u64 = 4294967296;
+
+// The questions that copying and handing over are asked.
+const FITS: u64 = 18;
+
+const IS_ANNOUNCED: u64 = 19;
+
 // The answer is 0 while nodes are pending, 2^32 and the string's length when it is handed over, else the number of the question that
 // refuses; then so many bytes that are built, and so many pending nodes.
 #[derive(Clone, Copy)]
@@ -42,7 +50,7 @@ pub fn conclude(
 {
     let copied = copying::settle(string, nodes, size, output, built, waiting, pile);
     if !copied.fits {
-        return refuse(output, 18);
+        return refuse(output, FITS);
     }
     let end = copied.built;
     let left = copied.waiting;
@@ -54,11 +62,11 @@ pub fn conclude(
         };
     }
     if end != size {
-        return refuse(output, 19);
+        return refuse(output, IS_ANNOUNCED);
     }
-    let answer = 4294967296 + end as u64;
+    let answer = HANDED_OVER + end as u64;
     if fnv::block_id(&output[..end]) != root {
-        return refuse(output, 19);
+        return refuse(output, IS_ANNOUNCED);
     }
     Outcome {
         answer,

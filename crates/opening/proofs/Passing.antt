@@ -1,38 +1,23 @@
--- One shingle of a list passed or stopped at, by each of the tests that a list is asked.
-use mathlib.Core.Bool.{Bool, true, false, not}
-use mathlib.Core.List.{List, ◌∷◌}
-use mathlib.Core.Path.{◌≡◌, refl, sym, ap, ◌∙◌}
-use Rattle.entries.proofs.Linear.{both}
+-- What the tests of a list say, from their answers at each place of its table.
+use mathlib.Core.Bool.{Bool, not}
+use mathlib.Core.List.{List}
+use mathlib.Core.Path.{◌≡◌, refl}
+use Prim.Native.Nat.{ℕ, ◌+◌}
 use Rattle.shingle.specs.declared.Shingle.{Shingle}
-use Rattle.shingle.specs.Table.{holds}
+use Rattle.shingle.specs.Table.{shingle_in_table, shingles_in, holds}
 use Rattle.sketch.specs.Opening.{no_shingle_twice, all_held, none_held}
+use Rattle.opening.proofs.Scanning.{Asked, at_places}
+use lib.ListN.{length, drop}
 
-pub not_false : (t : Bool) → not t ≡ false → t ≡ true
-not_false true e = refl
-not_false false e = absurd (both refl e)
-
-module _ (s : Shingle) (ss rest : List Shingle) (part : rest ≡ ss) where
-  pub twice_stop : holds s rest ≡ true → no_shingle_twice (s ∷ ss) ≡ false
+module _ (t : List ℕ) (n : ℕ) (size : n ≡ length (shingles_in t)) (r : Bool) where
+  pub twice_asked : Asked n r (λ k. not (holds (shingle_in_table t k) (drop (k + 1) (shingles_in t)))) → r ≡ no_shingle_twice (shingles_in t)
   unfolding no_shingle_twice
-  twice_stop e = rw (← part, e)
+  twice_asked = at_places no_shingle_twice (λ s ss. not (holds s ss)) refl (λ s ss. refl) t n size r
 
-  pub twice_next : holds s rest ≡ false → no_shingle_twice (s ∷ ss) ≡ no_shingle_twice ss
-  unfolding no_shingle_twice
-  twice_next e = let f : holds s ss ≡ false = ap (holds s) (sym part) ∙ e in rw f
-
-module _ (own : List Shingle) (s : Shingle) (ss : List Shingle) where
-  pub all_stop : holds s own ≡ false → all_held own (s ∷ ss) ≡ false
+  pub all_asked : (own : List Shingle) → Asked n r (λ k. holds (shingle_in_table t k) own) → r ≡ all_held own (shingles_in t)
   unfolding all_held
-  all_stop e = rw e
+  all_asked own = at_places (all_held own) (λ s ss. holds s own) refl (λ s ss. refl) t n size r
 
-  pub all_next : holds s own ≡ true → all_held own (s ∷ ss) ≡ all_held own ss
-  unfolding all_held
-  all_next e = rw e
-
-  pub none_stop : holds s own ≡ true → none_held own (s ∷ ss) ≡ false
+  pub none_asked : (own : List Shingle) → Asked n r (λ k. not (holds (shingle_in_table t k) own)) → r ≡ none_held own (shingles_in t)
   unfolding none_held
-  none_stop e = rw e
-
-  pub none_next : holds s own ≡ false → none_held own (s ∷ ss) ≡ none_held own ss
-  unfolding none_held
-  none_next e = rw e
+  none_asked own = at_places (none_held own) (λ s ss. not (holds s own)) refl (λ s ss. refl) t n size r

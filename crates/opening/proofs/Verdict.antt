@@ -136,26 +136,3 @@ opens_apart own p =
     (λ i o q. signs_apart own zs i o ∙ ap (λ (t : Bool). t && no_shingle_twice gone) (once_pairs new (later_once (kept gone own) new q)))
     ∙ other_test (all_zero p.left) (no_shingle_twice gone) (all_held own gone) (none_held own new) (none_held gone new) few (no_pair_twice all)
     (λ i q. none_gone own gone new i q))
-
--- One test that fails is enough; where the others hold, the last decides.
-module _ (empty : Bool) (new gone own : List Shingle) where
-  pub cells_left : empty ≡ false → false ≡ opens_with empty new gone own
-  unfolding opens_with
-  cells_left e = rw e
-
-  pub taken_twice : no_shingle_twice gone ≡ false → false ≡ opens_with empty new gone own
-  unfolding opens_with
-  taken_twice e = rw (e, and_not empty)
-
-  pub not_own : all_held own gone ≡ false → false ≡ opens_with empty new gone own
-  unfolding opens_with
-  not_own e = rw (e, and_not (no_shingle_twice gone), and_not empty)
-
-  pub also_gone : none_held gone new ≡ false → false ≡ opens_with empty new gone own
-  unfolding opens_with
-  also_gone e = rw (e, and_not (all_held own gone), and_not (no_shingle_twice gone), and_not empty)
-
-  pub by_pairs : empty ≡ true → no_shingle_twice gone ≡ true → all_held own gone ≡ true → none_held gone new ≡ true
-      → (r : Bool) → r ≡ few_once new gone own → r ≡ opens_with empty new gone own
-  unfolding opens_with
-  by_pairs a b c d r e = rw (a, b, c, d) e

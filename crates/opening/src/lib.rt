@@ -9,6 +9,7 @@ ghost use Rattle.opening.specs.Deciding.{Decided};
 ghost use Rattle.opening.specs.Renewing.{Renewed};
 ghost use Rattle.opening.specs.Opened.{Opened};
 
+use single::TAKEN_BYTES;
 pub use taken::none_twice;
 
 // What a sketch opens to: 0 or the number of the question that refuses it, and the shingle tables of what the own list lacks and
@@ -28,12 +29,12 @@ pub fn decide(levels: u64, width: u64, theirs: &[u8], own: &[u8], shingles: &[u8
     if early != 0 {
         return Opening {
             refusal: early,
-            new: [0u8; 4608],
-            gone: [0u8; 4608],
+            new: [0u8; TAKEN_BYTES],
+            gone: [0u8; TAKEN_BYTES],
         };
     }
-    let mut new = [0u8; 4608];
-    let mut gone = [0u8; 4608];
+    let mut new = [0u8; TAKEN_BYTES];
+    let mut gone = [0u8; TAKEN_BYTES];
     let empty = single::peel(levels, width, theirs, own, &mut new, &mut gone);
     let opened = question::opens(empty, &new, &gone, shingles);
     let refusal = question::last(opened);

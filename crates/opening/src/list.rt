@@ -1,24 +1,12 @@
 // The new list, made where the own list lies: what is kept goes to the table's front, the new shingles after it, then all is sorted.
 ghost use Rattle.std.specs.Prelude.{◌≡◌, ◌+◌, ◌*◌, ◌≤◌, length};
-ghost use Rattle.shingle.specs.Table.{shingle_of, shingles_in};
+ghost use Rattle.shingle.specs.Table.{shingles_in};
 ghost use Rattle.sketch.specs.Opening.{kept};
 ghost use Rattle.opening.specs.Renewing.{Renewed};
 ghost use Rattle.opening.specs.Steps.{Kept, Appended};
 
-use entries::Entry;
-use shingle::Shingle;
-
-// An entry as a shingle.
-fn meant(e: Entry) -> Shingle
-    ensures { result ≡ shingle_of e }
-{
-    Shingle {
-        previous: e.previous,
-        own: e.own,
-        level: e.tail / 65536,
-        count: e.tail % 65536,
-    }
-}
+// An accepted answer is this and a count.
+const ACCEPTED: u64 = 4294967296;
 
 // How many shingles of the table's list are not among those that are gone.
 fn count(gone: &[u8], table: &[u8]) -> usize
@@ -26,14 +14,10 @@ fn count(gone: &[u8], table: &[u8]) -> usize
 {
     let n = shingle::size(table);
     let mut found = 0;
-    let mut k = 0;
-    while k < n {
+    for k in 0..n {
         let s = shingle::shingle_at(table, k);
-        if shingle::contains(gone, s) {
-            k += 1;
-        } else {
+        if !shingle::contains(gone, s) {
             found += 1;
-            k += 1;
         }
     }
     found
@@ -45,15 +29,12 @@ fn keep(gone: &[u8], table: &mut [u8])
 {
     let n = shingle::size(table);
     let mut written = 0;
-    let mut read = 0;
-    while read < n {
-        let e = entries::get(table, read);
-        if shingle::contains(gone, meant(e)) {
-            read += 1;
-        } else {
+    for read in 0..n {
+        let s = shingle::shingle_at(table, read);
+        if !shingle::contains(gone, s) {
+            let e = entries::get(table, read);
             entries::put(table, written, e);
             written += 1;
-            read += 1;
         }
     }
 }
@@ -64,11 +45,9 @@ fn append(new: &[u8], table: &mut [u8], from: usize)
     ensures { Appended new.now from table.old table.new }
 {
     let n = shingle::size(new);
-    let mut k = 0;
-    while k < n {
+    for k in 0..n {
         let e = entries::get(new, k);
         entries::put(table, from + k, e);
-        k += 1;
     }
 }
 
@@ -86,5 +65,5 @@ pub fn renew(new: &[u8], gone: &[u8], table: &mut [u8]) -> u64
     append(new, table, old);
     sort::sort(&mut table[..n * 24]);
     rows::clear(table, n * 24);
-    4294967296 + n as u64
+    ACCEPTED + n as u64
 }

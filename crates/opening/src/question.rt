@@ -6,30 +6,22 @@ ghost use Rattle.opening.specs.Steps.{size_refusal, opens_with};
 
 use super::taken;
 
+// A shingle table's room: 4,096 entries of 24 bytes.
+const SHINGLE_BYTES: usize = 98304;
+
 // Questions 3, 5 and 7, of the settings and of the lengths of what is lent.
+#[tactic(auto, unfolding(crate::specs::Steps::size_refusal, tree::specs::Questions::ask))]
 pub fn sizes(levels: u64, width: u64, theirs: usize, own: usize, shingles: usize) -> u64
     ensures { result ≡ size_refusal levels width theirs own shingles }
 {
-    if levels < 1 {
+    if !(1..=4).contains(&levels) {
         return 3;
     }
-    if levels > 4 {
-        return 3;
-    }
-    if width < 1 {
-        return 5;
-    }
-    if width > 64 {
+    if !(1..=64).contains(&width) {
         return 5;
     }
     let cells = width as usize * 120;
-    if theirs < cells {
-        return 7;
-    }
-    if own < cells {
-        return 7;
-    }
-    if shingles < 98304 {
+    if theirs < cells || own < cells || shingles < SHINGLE_BYTES {
         return 7;
     }
     0
@@ -37,30 +29,21 @@ pub fn sizes(levels: u64, width: u64, theirs: usize, own: usize, shingles: usize
 
 // Whether the sketch opens, from what was taken and whether all cells ended at 0. A positive shingle that is in the own list is among
 // the negative ones, or else it is kept and its pair comes twice.
+#[tactic(auto, unfolding(crate::specs::Steps::opens_with))]
 pub fn opens(empty: bool, new: &[u8], gone: &[u8], own: &[u8]) -> bool
     ensures { result ≡ opens_with empty (shingles_in new.now) (shingles_in gone.now) (shingles_in own.now) }
 {
-    if !empty {
-        return false;
-    }
-    if !taken::none_twice(gone) {
-        return false;
-    }
-    if !taken::all_in(own, gone) {
-        return false;
-    }
-    if !taken::none_in(gone, new) {
-        return false;
-    }
-    pairs::once(new, gone, own)
+    empty
+        && taken::none_twice(gone)
+        && taken::all_in(own, gone)
+        && taken::none_in(gone, new)
+        && pairs::once(new, gone, own)
 }
 
 // Question 14.
+#[tactic(auto, unfolding(tree::specs::Questions::ask))]
 pub fn last(opened: bool) -> u64
     ensures { result ≡ ask opened 14 0 }
 {
-    if opened {
-        return 0;
-    }
-    14
+    if opened { 0 } else { 14 }
 }

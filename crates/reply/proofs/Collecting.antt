@@ -14,47 +14,47 @@ use Rattle.node_table.specs.declared.Entry.{Entry}
 use Rattle.node_table.specs.Nodes.{inside, entries_from}
 use Rattle.node_table.proofs.Nodes.{from_past}
 use Rattle.protocol.specs.Sender.{child_ids}
-use Rattle.reply.specs.Parts.{role_at, Collected}
+use Rattle.reply.specs.declared.child.Role.{Role}
+use Rattle.reply.specs.declared.child.Role.TheVariants.{End, Passed, Child}
+use Rattle.reply.specs.Parts.{role_at, Listing}
 
 -- Each way out of finding an entry's role.
 module _ (nodes : List ℕ) (n l k : ℕ) where
-  pub role_unused : (id : ℕ) → id ≡ id_at nodes k → id ≡ 0 → 0 ≡ role_at nodes n l k
+  pub role_unused : (id : ℕ) → id ≡ id_at nodes k → id ≡ 0 → End ≡ role_at nodes n l k
   unfolding role_at
   role_unused id e z = rw (← e, eq-eqb id 0 z)
 
   module _ (id : ℕ) (e : id ≡ id_at nodes k) (used : id ≡ 0 → ⊥) (level : ℕ) (f : level ≡ level_at nodes k) where
-    pub role_end : level ≤ l → 0 ≡ role_at nodes n l k
+    pub role_end : level ≤ l → End ≡ role_at nodes n l k
     unfolding role_at
     role_end h = rw (← e, ne_eqb id 0 used, ← f, le-leb level l h)
 
     module _ (h : l < level) where
-      pub role_deeper : (level - l ≡ 1 → ⊥) → 1 ≡ role_at nodes n l k
+      pub role_deeper : (level - l ≡ 1 → ⊥) → Passed ≡ role_at nodes n l k
       unfolding role_at
       role_deeper g =
           rw (← e, ne_eqb id 0 used, ← f, lt-leb level l h, ne_eqb level (l + 1) (λ s. g (omega arith))) (sym (never (inside n (entry_at nodes k))))
         where
-          never : (t : Bool) → ◌≡◌ {A = ℕ} (cond (t && false) 2 1) 1
+          never : (t : Bool) → ◌≡◌ {A = Role} (cond (t && false) Child Passed) Passed
           never true = refl
           never false = refl
 
       module _ (g : level - l ≡ 1) (r : Bool) (is : r ≡ inside n (entry_at nodes k)) where
-        pub role_child : r ≡ true → 2 ≡ role_at nodes n l k
+        pub role_child : r ≡ true → Child ≡ role_at nodes n l k
         unfolding role_at
         role_child t = rw (← e, ne_eqb id 0 used, ← f, lt-leb level l h, sym is ∙ t, eq-eqb level (l + 1) (omega arith))
 
-        pub role_outside : r ≡ false → 1 ≡ role_at nodes n l k
+        pub role_outside : r ≡ false → Passed ≡ role_at nodes n l k
         unfolding role_at
         role_outside t = rw (← e, ne_eqb id 0 used, ← f, lt-leb level l h, sym is ∙ t)
 
 -- The ids, from an entry of that role and id and from those after it.
-unfoldable chosen : ℕ → ℕ → List ℕ → List ℕ
-chosen role id rest = cond (eqb role 0) [] (cond (eqb role 2) (id ∷ rest) rest)
+unfoldable chosen : Role → ℕ → List ℕ → List ℕ
+chosen End id rest = []
+chosen Passed id rest = rest
+chosen Child id rest = id ∷ rest
 
-unchosen : (role id : ℕ) (rest : List ℕ) → (role ≡ 0 → ⊥) → (role ≡ 2 → ⊥) → chosen role id rest ≡ rest
-unfolding chosen
-unchosen role id rest z t = rw (ne_eqb role 0 z, ne_eqb role 2 t)
-
-one_role : (d c : Bool) (id : ℕ) (rest : List ℕ) → cond d [] (cond c (id ∷ rest) rest) ≡ chosen (cond d 0 (cond c 2 1)) id rest
+one_role : (d c : Bool) (id : ℕ) (rest : List ℕ) → cond d [] (cond c (id ∷ rest) rest) ≡ chosen (cond d End (cond c Child Passed)) id rest
 unfolding chosen
 one_role true c id rest = refl
 one_role false true id rest = refl
@@ -62,7 +62,7 @@ one_role false false id rest = refl
 
 one_entry : (n l : ℕ) (e : Entry) (es : List Entry) (z : Bool)
     → child_ids n l (cond z [] (e ∷ es))
-    ≡ chosen (cond z 0 (cond (leb e.level l) 0 (cond (inside n e && eqb e.level (l + 1)) 2 1))) e.id (child_ids n l es)
+    ≡ chosen (cond z End (cond (leb e.level l) End (cond (inside n e && eqb e.level (l + 1)) Child Passed))) e.id (child_ids n l es)
 unfolding child_ids chosen
 one_entry n l e es true = refl
 one_entry n l e es false = one_role (leb e.level l) (inside n e && eqb e.level (l + 1)) e.id (child_ids n l es)
@@ -89,41 +89,36 @@ pub collect_start : (nodes : List ℕ) (n l from : ℕ) → Collecting (ids_from
 collect_start nodes n l from = record { room = length-replicate {A = ℕ} 32 0; fits = omega arith; rest = refl }
 
 ended : (all nodes : List ℕ) (n l k count : ℕ) (ids : List ℕ) → ids_from nodes n l k ≡ []
-    → Collecting all nodes n l k count ids → Collected all count ids
+    → Collecting all nodes n l k count ids → Listing all (record { count = count; ids = ids })
 ended all nodes n l k count ids e c =
-    let fits = c.fits in
     record {
       room = c.room;
-      few = λ h. sym (append-nil (take count ids)) ∙ (ap (λ (r : List ℕ). take count ids ++ r) (sym e) ∙ c.rest);
-      many = λ h. absurd (omega arith);
+      few = c.fits;
+      ids_are = sym (append-nil (take count ids)) ∙ (ap (λ (r : List ℕ). take count ids ++ r) (sym e) ∙ c.rest);
     }
 
 pub collect_end : (all nodes : List ℕ) (n l k count : ℕ) (ids : List ℕ) → length nodes / 16 ≤ k
-    → Collecting all nodes n l k count ids → Collected all count ids
+    → Collecting all nodes n l k count ids → Listing all (record { count = count; ids = ids })
 unfolding child_ids
 collect_end all nodes n l k count ids h c = ended all nodes n l k count ids (rw (from_past nodes k h)) c
 
-module _ (all nodes : List ℕ) (n l k count : ℕ) (ids : List ℕ) (h : k < length nodes / 16) (c : Collecting all nodes n l k count ids)
-    (role : ℕ) (is : role ≡ role_at nodes n l k) where
-  here : ids_from nodes n l k ≡ chosen role (id_at nodes k) (ids_from nodes n l (k + 1))
-  here = ids_chosen nodes n l k h ∙ ap (λ (r : ℕ). chosen r (id_at nodes k) (ids_from nodes n l (k + 1))) (sym is)
+module _ (all nodes : List ℕ) (n l k count : ℕ) (ids : List ℕ) (h : k < length nodes / 16) (c : Collecting all nodes n l k count ids) where
+  here : (role : Role) → role ≡ role_at nodes n l k → ids_from nodes n l k ≡ chosen role (id_at nodes k) (ids_from nodes n l (k + 1))
+  here role is = ids_chosen nodes n l k h ∙ ap (λ (r : Role). chosen r (id_at nodes k) (ids_from nodes n l (k + 1))) (sym is)
 
-  pub collect_stop : role ≡ 0 → Collected all count ids
+  pub collect_stop : End ≡ role_at nodes n l k → Listing all (record { count = count; ids = ids })
   unfolding chosen
-  collect_stop z = ended all nodes n l k count ids (here ∙ rw (eq-eqb role 0 z)) c
+  collect_stop is = ended all nodes n l k count ids (here End is) c
 
-  pub collect_pass : (role ≡ 0 → ⊥) → (role ≡ 2 → ⊥) → Collecting all nodes n l (k + 1) count ids
-  collect_pass z t =
-      record {
-        room = c.room;
-        fits = c.fits;
-        rest = ap (λ (r : List ℕ). take count ids ++ r) (sym (here ∙ unchosen role (id_at nodes k) (ids_from nodes n l (k + 1)) z t)) ∙ c.rest;
-      }
+  pub collect_pass : Passed ≡ role_at nodes n l k → Collecting all nodes n l (k + 1) count ids
+  unfolding chosen
+  collect_pass is =
+      record { room = c.room; fits = c.fits; rest = ap (λ (r : List ℕ). take count ids ++ r) (sym (here Passed is)) ∙ c.rest }
 
-  module _ (t : role ≡ 2) where
+  module _ (is : Child ≡ role_at nodes n l k) where
     one : ids_from nodes n l k ≡ id_at nodes k ∷ ids_from nodes n l (k + 1)
     unfolding chosen
-    one = here ∙ rw t
+    one = here Child is
 
     pub collect_child : (id : ℕ) → id ≡ id_at nodes k → (count ≡ 32 → ⊥) → Collecting all nodes n l (k + 1) (count + 1) (set ids count id)
     collect_child id e f =
@@ -139,7 +134,7 @@ module _ (all nodes : List ℕ) (n l k count : ℕ) (ids : List ℕ) (h : k < le
               ∙ (ap (λ (x : ℕ). take count ids ++ x ∷ rest) e ∙ (ap (λ (r : List ℕ). take count ids ++ r) (sym one) ∙ c.rest)));
         }
 
-    pub collect_full : count ≡ 32 → Collected all 33 ids
+    pub collect_full : count ≡ 32 → 32 < length all
     collect_full f =
         let fits = c.fits in
         let room = c.room in
@@ -147,8 +142,4 @@ module _ (all nodes : List ℕ) (n l k count : ℕ) (ids : List ℕ) (h : k < le
         ap length (sym c.rest ∙ ap (λ (r : List ℕ). take count ids ++ r) one)
         ∙ (length-append (take count ids) (id_at nodes k ∷ ids_from nodes n l (k + 1))
         ∙ ap (λ (m : ℕ). m + suc (length (ids_from nodes n l (k + 1)))) (length-take-le count ids (omega arith))) in
-        record {
-          room = c.room;
-          few = λ g. absurd (omega arith);
-          many = λ g. omega arith;
-        }
+        omega arith

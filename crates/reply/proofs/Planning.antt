@@ -1,20 +1,20 @@
 -- When a composition is planned, and what the plan then says.
+use Rattle.std.specs.Prelude.{Option}
+use Rattle.std.proofs.Common.{None, Some}
 use mathlib.Core.Bool.{Bool, true, false, cond, not, ◌&&◌}
 use mathlib.Core.List.{List, [], ◌∷◌}
 use mathlib.Core.Option.{some}
-use mathlib.Core.Path.{◌≡◌, refl, sym, ap, ◌∙◌}
+use mathlib.Core.Path.{◌≡◌, refl, ap}
 use Prim.Native.Nat.{ℕ, ◌+◌, ◌-◌, ◌/◌, ◌^◌, ◌≤◌, ◌<◌}
 use native.Mathlib.Omega.{arith}
 use borrow.Author.Tests.{lt-ltb, le-ltb}
 use lib.Dec.{ltb}
 use lib.ListN.{length, take, length-take}
-use Rattle.entries.proofs.Linear.{both}
 use Rattle.tree.specs.declared.Settings.{Settings}
 use Rattle.shingle.specs.Table.{shingles_in}
 use Rattle.trail.specs.Trails.{trail_number, only_trail}
 use Rattle.trail.specs.Calls.{numberable, unnumbered, number_answer}
 use Rattle.trail.specs.declared.Numbered.{Numbered}
-use Rattle.message.specs.Words.{Ref}
 use Rattle.message.specs.Reading.{stated_by}
 use Rattle.message_writer.specs.Writing.{paired}
 use Rattle.node_table.specs.Nodes.{entries_from}
@@ -22,17 +22,8 @@ use Rattle.protocol.specs.Numbers.{stated}
 use Rattle.protocol.specs.Sender.{child_ids, has_number, composable, refs_of, referable}
 use Rattle.reply.specs.declared.plan.Plan.{Plan}
 use Rattle.reply.specs.declared.reference.References.{References}
+use Rattle.reply.specs.declared.child.Children.{Children}
 use Rattle.reply.specs.Parts.{Collected, Referred, references_of, Planned, ids_below, NodePlanned}
-
--- The node's bytes, where there is no composition.
-pub plain_planned : {possible : Bool} {ids : List ℕ} {refs : List Ref} {p : Plan} → p.composed ≡ false → possible ≡ false → Planned possible ids refs p
-plain_planned e f =
-    record {
-      composed_is = e ∙ sym f;
-      trail_is = λ t. absurd (both t e);
-      references_are = λ t. absurd (both t e);
-      writable = λ t. absurd (both t e);
-    }
 
 first_false : (a b : Bool) → a ≡ false → a && b ≡ false
 first_false a b e = rw e
@@ -99,64 +90,63 @@ composable_below : (σ : Settings) (l : ℕ) (ids : List ℕ) → l < σ.levels 
 unfolding composable
 composable_below σ l ids h = rw (lt-ltb l σ.levels h)
 
-moved : (σ : Settings) (shingles ids below : List ℕ) (l : ℕ) {p : Plan} → ids ≡ below → composable σ l below ≡ has_number below
+moved : (σ : Settings) (shingles ids below : List ℕ) (l : ℕ) (p : Option Plan) → ids ≡ below → composable σ l below ≡ has_number below
     → Planned (has_number ids && referable (shingles_in shingles) (l + 1) ids) ids (refs_of (shingles_in shingles) (l + 1) ids) p
     → Planned (composable σ l below && referable (shingles_in shingles) (l + 1) below) below (refs_of (shingles_in shingles) (l + 1) below) p
-moved σ shingles ids below l e f w = rw (f, ← e) w
+moved σ shingles ids below l p e f w = rw (f, ← e) w
 
 -- Children of level l with these ids.
-module _ (shingles : List ℕ) (l : ℕ) (ids : List ℕ) (order : Numbered) (is : order ≡ number_answer ids) (p : Plan) where
-  abbrev ChildrenPlanned : Type 0
-  ChildrenPlanned = Planned (has_number ids && referable (shingles_in shingles) l ids) ids (refs_of (shingles_in shingles) l ids) p
+module _ (shingles : List ℕ) (l : ℕ) (ids : List ℕ) (order : Numbered) (is : order ≡ number_answer ids) where
+  abbrev possible : Bool
+  possible = has_number ids && referable (shingles_in shingles) l ids
 
-  pub children_unnumbered : p.composed ≡ false → order.answer < 2 ^ 32 → ChildrenPlanned
-  children_unnumbered e h = plain_planned e (first_false _ _ (no_number ids order is h))
+  pub children_unnumbered : order.answer < 2 ^ 32 → possible ≡ false
+  children_unnumbered h = first_false _ _ (no_number ids order is h)
 
-  pub children_above : p.composed ≡ false → 2 ^ 32 + 4095 < order.answer → ChildrenPlanned
-  children_above e h = plain_planned e (first_false _ _ (number_above ids order is h))
+  pub children_above : 2 ^ 32 + 4095 < order.answer → possible ≡ false
+  children_above h = first_false _ _ (number_above ids order is h)
 
-  module _ (found : References) (c : Referred (refs_of (shingles_in shingles) l ids) found.count found.indexes found.counts) where
-    pub children_unreferable : p.composed ≡ false → 32 < found.count → ChildrenPlanned
-    unfolding referable
-    children_unreferable e h = plain_planned e (second_false (has_number ids) _ (c.many h))
+  pub children_unreferable : Referred (refs_of (shingles_in shingles) l ids) None → possible ≡ false
+  unfolding referable
+  children_unreferable unreferred = second_false (has_number ids) _ unreferred
 
-    pub children_composed : 2 ^ 32 ≤ order.answer → order.answer ≤ 2 ^ 32 + 4095 → found.count ≤ 32 → p.composed ≡ true
-        → p.numbered ≡ not order.only → p.number ≡ order.answer - 2 ^ 32 → p.references ≡ found → ChildrenPlanned
-    unfolding referable references_of
-    children_composed low high h composed carried number same =
-        let stated = number_is ids order is low high in
-        let refs = refs_of (shingles_in shingles) l ids in
-        let size = ap length (c.few h) in
-        let short = paired_few (take found.count found.indexes) (take found.count found.counts) in
-        let few : length refs < 33 = omega (arith, size, short, length-take found.count found.indexes, h) in
+  pub children_composed : (found : References) → Referred (refs_of (shingles_in shingles) l ids) (Some found) → 2 ^ 32 ≤ order.answer
+      → order.answer ≤ 2 ^ 32 + 4095
+      → Planned possible ids (refs_of (shingles_in shingles) l ids)
+      (Some (record { numbered = not order.only; number = order.answer - 2 ^ 32; references = found }))
+  unfolding referable references_of
+  children_composed found c low high =
+      let number = number_is ids order is low high in
+      let refs = refs_of (shingles_in shingles) l ids in
+      let size = ap length c.refs_are in
+      let short = paired_few (take found.count found.indexes) (take found.count found.counts) in
+      let few : length refs < 33 = omega (arith, size, short, length-take found.count found.indexes, c.few) in (
+        both_true (has_number ids) _ number.0 (both_true (ltb (length refs) 33) _ (lt-ltb (length refs) 33 few) c.low),
         record {
-          composed_is =
-              composed ∙ sym (both_true (has_number ids) _ stated.0 (both_true (ltb (length refs) 33) _ (lt-ltb (length refs) 33 few) (c.low h)));
-          trail_is = λ t. (λ i. stated_by (carried i) (number i)) ∙ stated.1;
-          references_are = λ t. ap (λ (r : References). paired (take r.count r.indexes) (take r.count r.counts)) same ∙ c.few h;
-          writable = λ t. rw same (record { few = h; indexes_room = c.indexes_room; counts_room = c.counts_room });
-        }
+          trail_is = number.1;
+          references_are = c.refs_are;
+          writable = record { few = c.few; indexes_room = c.indexes_room; counts_room = c.counts_room };
+        },
+      )
 
 -- The node of entry k.
-module _ (σ : Settings) (n : ℕ) (nodes shingles : List ℕ) (l k : ℕ) (p : Plan) where
-  pub level_too_low : p.composed ≡ false → σ.levels ≤ l → NodePlanned σ n nodes shingles l k p
+module _ (σ : Settings) (n : ℕ) (nodes shingles : List ℕ) (l k : ℕ) where
+  pub level_too_low : σ.levels ≤ l → NodePlanned σ n nodes shingles l k None
   unfolding composable
-  level_too_low e h = plain_planned e (first_false _ _ (first_false _ _ (le-ltb l σ.levels h)))
+  level_too_low h = first_false _ _ (first_false _ _ (le-ltb l σ.levels h))
 
-  module _ (count : ℕ) (ids : List ℕ)
-      (c : Collected (child_ids n l (entries_from nodes (length nodes / 16 - (k + 1)) (k + 1))) count ids) where
-    pub too_many_children : p.composed ≡ false → 32 < count → NodePlanned σ n nodes shingles l k p
-    unfolding composable has_number numberable ids_below
-    too_many_children e h =
-        let many = c.many h in
-        let ids = ids_below nodes n l k in
-        let above = second_false (ltb 0 (length ids)) _ (first_false _ _ (le-ltb (length ids) 33 (omega arith))) in
-        plain_planned e (first_false _ _ (second_false (ltb l σ.levels) _ (first_false _ _ above)))
+  pub too_many_children : Collected (child_ids n l (entries_from nodes (length nodes / 16 - (k + 1)) (k + 1))) None → NodePlanned σ n nodes shingles l k None
+  unfolding composable has_number numberable ids_below
+  too_many_children many =
+      let ids = ids_below nodes n l k in
+      let above = second_false (ltb 0 (length ids)) _ (first_false _ _ (le-ltb (length ids) 33 (omega arith))) in
+      first_false _ _ (second_false (ltb l σ.levels) _ (first_false _ _ above))
 
-    pub planned_below : l < σ.levels → count ≤ 32
-        → Planned (has_number (take count ids) && referable (shingles_in shingles) (l + 1) (take count ids)) (take count ids)
-        (refs_of (shingles_in shingles) (l + 1) (take count ids)) p
-        → NodePlanned σ n nodes shingles l k p
-    unfolding ids_below
-    planned_below h few w =
-        moved σ shingles (take count ids) (ids_below nodes n l k) l (c.few few) (composable_below σ l (ids_below nodes n l k) h) w
+  pub planned_below : (found : Children) → Collected (child_ids n l (entries_from nodes (length nodes / 16 - (k + 1)) (k + 1))) (Some found)
+      → l < σ.levels → (p : Option Plan)
+      → Planned (has_number (take found.count found.ids) && referable (shingles_in shingles) (l + 1) (take found.count found.ids))
+      (take found.count found.ids) (refs_of (shingles_in shingles) (l + 1) (take found.count found.ids)) p
+      → NodePlanned σ n nodes shingles l k p
+  unfolding ids_below
+  planned_below found c h p w =
+      moved σ shingles (take found.count found.ids) (ids_below nodes n l k) l p c.ids_are (composable_below σ l (ids_below nodes n l k) h) w

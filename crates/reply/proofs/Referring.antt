@@ -5,7 +5,7 @@ use mathlib.Core.Path.{◌≡◌, refl, sym, ap, ◌∙◌}
 use Prim.Native.Nat.{ℕ, zero, suc, ◌+◌, ◌≤◌, ◌<◌}
 use native.Mathlib.Numerals.{add-one}
 use native.Mathlib.Omega.{arith}
-use borrow.Author.Tests.{eq-eqb, ne_eqb, lt-ltb, le-ltb}
+use borrow.Author.Tests.{lt-ltb, le-ltb}
 use lib.Dec.{ltb}
 use lib.ListN.{length, get_or, take, drop, set, replicate, length-set, length-append, length-replicate, drop_of_length-le}
 use lib.Seq.{drop-cons, take-suc-set, append_snoc, length-take-le}
@@ -19,25 +19,7 @@ use Rattle.shingle.proofs.Reading.{listed_at}
 use Rattle.message.specs.Words.{Ref}
 use Rattle.message_writer.specs.Writing.{paired}
 use Rattle.protocol.specs.Sender.{refer, refs_from, refs_of, indexed}
-use Rattle.reply.specs.Parts.{Referred}
-
--- Each way out of comparing a pair.
-module _ (level previous own l v o : ℕ) where
-  pub once_level : (level ≡ l → ⊥) → 0 ≡ cond {A = ℕ} (same_pair (pair level previous own) (pair l v o)) 1 0
-  unfolding same_pair
-  once_level h = rw (ne_eqb level l h)
-
-  pub once_previous : level ≡ l → (previous ≡ v → ⊥) → 0 ≡ cond {A = ℕ} (same_pair (pair level previous own) (pair l v o)) 1 0
-  unfolding same_pair
-  once_previous e h = rw (eq-eqb level l e, ne_eqb previous v h)
-
-  pub once_own : level ≡ l → previous ≡ v → (own ≡ o → ⊥) → 0 ≡ cond {A = ℕ} (same_pair (pair level previous own) (pair l v o)) 1 0
-  unfolding same_pair
-  once_own e f h = rw (eq-eqb level l e, eq-eqb previous v f, ne_eqb own o h)
-
-  pub once_same : level ≡ l → previous ≡ v → own ≡ o → 1 ≡ cond {A = ℕ} (same_pair (pair level previous own) (pair l v o)) 1 0
-  unfolding same_pair
-  once_same e f g = rw (eq-eqb level l e, eq-eqb previous v f, eq-eqb own o g)
+use Rattle.reply.specs.Parts.{Referrals}
 
 -- The pairs counted and those still to come are all.
 pub record Counting (k : Pair) (l : ℕ) (ids : List ℕ) (sum previous i : ℕ) : Type 0 where
@@ -129,19 +111,12 @@ unfolding refs_from
 one_shingle list l ids k often s h e o = rw (drop-cons list k (shingle_of blank) h, ← e, ← o, add-one k)
 
 pub refer_end : (list : List Shingle) (l : ℕ) (ids : List ℕ) (k count : ℕ) (indexes counts : List ℕ) → length list ≤ k
-    → Referring list l ids k count indexes counts → Referred (refs_of list l ids) count indexes counts
+    → Referring list l ids k count indexes counts → Referrals (refs_of list l ids) (record { count = count; indexes = indexes; counts = counts })
 unfolding refs_from
 refer_end list l ids k count indexes counts h c =
-    let fits = c.fits in
     let all : paired (take count indexes) (take count counts) ≡ refs_of list l ids =
     sym (append-nil (paired (take count indexes) (take count counts))) ∙ (rw (drop_of_length-le list {i = k} h) at c.rest) in
-    record {
-      indexes_room = c.indexes_room;
-      counts_room = c.counts_room;
-      few = λ g. all;
-      low = λ g. ap indexed (sym all) ∙ c.low;
-      many = λ g. absurd (omega arith);
-    }
+    record { indexes_room = c.indexes_room; counts_room = c.counts_room; few = c.fits; refs_are = all; low = ap indexed (sym all) ∙ c.low }
 
 module _ (table : List ℕ) (l : ℕ) (ids : List ℕ) (k count : ℕ) (indexes counts : List ℕ) (h : k < length (shingles_in table))
     (c : Referring (shingles_in table) l ids k count indexes counts) (s : Shingle) (is : s ≡ shingle_in_table table k) (often : ℕ)
@@ -197,12 +172,10 @@ module _ (table : List ℕ) (l : ℕ) (ids : List ℕ) (k count : ℕ) (indexes 
         ≡ paired (take count indexes) (take count counts) ++ record { index = k; count = often } ∷ refs_from (k + 1) (drop (k + 1) (shingles_in table)) l ids
     all_is = sym c.rest ∙ ap (λ (zs : List Ref). paired (take count indexes) (take count counts) ++ zs) one
 
-    too_many : (ltb (length (refs_of (shingles_in table) l ids)) 33 && indexed (refs_of (shingles_in table) l ids)) ≡ false
-        → Referred (refs_of (shingles_in table) l ids) 33 indexes counts
-    too_many e =
-        record { indexes_room = c.indexes_room; counts_room = c.counts_room; few = λ g. absurd (omega arith); low = λ g. absurd (omega arith); many = λ g. e }
+    abbrev Refused : Type 0
+    Refused = (ltb (length (refs_of (shingles_in table) l ids)) 33 && indexed (refs_of (shingles_in table) l ids)) ≡ false
 
-    pub refer_full : count ≡ 32 → Referred (refs_of (shingles_in table) l ids) 33 indexes counts
+    pub refer_full : count ≡ 32 → Refused
     refer_full f =
         let roomy = c.indexes_room in
         let roomier = c.counts_room in
@@ -215,14 +188,14 @@ module _ (table : List ℕ) (l : ℕ) (ids : List ℕ) (k count : ℕ) (indexes 
         ap length all_is
         ∙ (length-append (paired xs ys) (record { index = k; count = often } ∷ rest)
         ∙ ap (λ (m : ℕ). m + suc (length rest)) (length-paired xs ys same ∙ size)) in
-        too_many (rw (le-ltb (length (refs_of (shingles_in table) l ids)) 33 (omega (arith, long, f))) refl)
+        rw (le-ltb (length (refs_of (shingles_in table) l ids)) 33 (omega (arith, long, f))) refl
 
     -- An index that its field does not hold.
-    pub refer_far : 4095 < k → Referred (refs_of (shingles_in table) l ids) 33 indexes counts
+    pub refer_far : 4095 < k → Refused
     unfolding indexed
     refer_far far =
         let front = paired (take count indexes) (take count counts) in
         let rest = refs_from (k + 1) (drop (k + 1) (shingles_in table)) l ids in
         let wide : indexed (refs_of (shingles_in table) l ids) ≡ false =
         ap indexed all_is ∙ (indexed-append front (record { index = k; count = often } ∷ rest) ∙ rw (c.low, le-ltb k 4096 (omega (arith, far))) refl) in
-        too_many (rw wide (and-false (ltb (length (refs_of (shingles_in table) l ids)) 33)))
+        rw wide (and-false (ltb (length (refs_of (shingles_in table) l ids)) 33))

@@ -1,4 +1,5 @@
 -- The replies as messages of the definition, and the way from the questions to them.
+use Rattle.std.proofs.Common.{None, Some, Ok, Err}
 use mathlib.Core.Bool.{Bool, true, false, cond, ◌&&◌}
 use mathlib.Core.List.{List, [], ◌∷◌, ◌++◌}
 use mathlib.Core.Option.{Option, none, some}
@@ -27,7 +28,8 @@ use Rattle.node_table.specs.Nodes.{inside, entries_in, place_of, sought}
 use Rattle.protocol.specs.Nodes.{block_in}
 use Rattle.protocol.specs.Numbers.{stated}
 use Rattle.protocol.specs.Sender.{composable, refs_of, referable, node_reply, opening_reply, reply_to, unwritten, writing, replying, hearing, reply}
-use Rattle.reply.specs.declared.query.Query.{Query}
+use Rattle.reply.specs.declared.query.NodeQuery as query
+use Rattle.reply.specs.declared.query.Query.TheVariants as asks
 use Rattle.reply.specs.Reply.{reply_of, Replied}
 use Rattle.reply.proofs.Searching.{none_asked, first_asked}
 use Rattle.reply.specs.declared.plan.Plan.{Plan}
@@ -85,17 +87,18 @@ module _ (σ : Settings) (string nodes shingles : List ℕ) (n l i k : ℕ)
   unfolding node_reply_of node_reply ids_below
   reply_is h = rw (first_asked nodes (length string) l i k is h)
 
-  module _ (found : id_at nodes k ≡ 0 → ⊥) (p : Plan) (planned : NodePlanned σ (length string) nodes shingles l k p) where
-    pub composition_written : {b a : List ℕ} {r : ℕ} → p.composed ≡ true → Written b a (encode (composed_by p n l i)) r
-        → Written b a (encode (node_reply_of σ string nodes shingles n l i)) r
+  module _ (found : id_at nodes k ≡ 0 → ⊥) where
+    pub composition_written : (p : Plan) → NodePlanned σ (length string) nodes shingles l k (Some p) → {b a : List ℕ} {r : ℕ}
+        → Written b a (encode (composed_by p n l i)) r → Written b a (encode (node_reply_of σ string nodes shingles n l i)) r
     unfolding composed_by
-    composition_written e w =
+    composition_written p planned w =
         retold
-        ((λ j. composition n l i (planned.trail_is e j) (planned.references_are e j)) ∙ sym (reply_is found ∙ rw (sym planned.composed_is ∙ e) refl)) w
+        ((λ j. composition n l i (planned.1.trail_is j) (planned.1.references_are j)) ∙ sym (reply_is found ∙ rw planned.0 refl)) w
 
-    pub literal_written : {b a : List ℕ} {r : ℕ} → p.composed ≡ false → Written b a (encode (literal n l i (block_in string (entry_at nodes k)))) r
+    pub literal_written : NodePlanned σ (length string) nodes shingles l k None → {b a : List ℕ} {r : ℕ}
+        → Written b a (encode (literal n l i (block_in string (entry_at nodes k)))) r
         → Written b a (encode (node_reply_of σ string nodes shingles n l i)) r
-    literal_written e w = retold (sym (reply_is found ∙ rw (sym planned.composed_is ∙ e) refl)) w
+    literal_written unplanned w = retold (sym (reply_is found ∙ rw unplanned refl)) w
 
 -- A message written is what the definition writes.
 written_answer : {b a : List ℕ} {r : ℕ} (bytes : List ℕ) → Written b a bytes r → r ≡ (writing bytes b).answer
@@ -142,16 +145,16 @@ module _ (σ : Settings) (string nodes shingles cells message b : List ℕ) (ref
     unfolding hearing replying reply_to node_reply_of
     node_heard n l i = refl
 
-    pub unheard : (answer : Message) (q : Query) → Reads message answer → q ≡ query_of_message answer → (q.kind ≡ 1 → ⊥) → (q.kind ≡ 2 → ⊥)
-        → Replied σ string nodes shingles cells message b b q.kind
+    pub unheard : (answer : Message) (question : ℕ) → Reads message answer → query_of_message answer ≡ Err question
+        → Replied σ string nodes shingles cells message b b question
     unfolding hearing replying reply_to
-    unheard Bad q read is one two = rw is (refusing 10 none read.message refl)
-    unheard (OpeningQuery n) q read is one two = absurd (one (ap (λ x. x.kind) is))
-    unheard (NodeQuery n l i) q read is one two = absurd (two (ap (λ x. x.kind) is))
-    unheard (Opening n rule w p L M q' len root at) q read is one two = rw is (refusing 11 _ read.message refl)
-    unheard (Composition n l i numbered x at count) q read is one two = rw is (refusing 11 _ read.message refl)
-    unheard (Literal n l i at count) q read is one two = rw is (refusing 11 _ read.message refl)
-    unheard (NoNode n l i) q read is one two = rw is (refusing 11 _ read.message refl)
+    unheard Bad question read is = let same : question ≡ 10 = cc in rw same (refusing 10 none read.message refl)
+    unheard (OpeningQuery n) question read is = absurd cc
+    unheard (NodeQuery n l i) question read is = absurd cc
+    unheard (Opening n rule w p L M q len root at) question read is = let same : question ≡ 11 = cc in rw same (refusing 11 _ read.message refl)
+    unheard (Composition n l i numbered x at count) question read is = let same : question ≡ 11 = cc in rw same (refusing 11 _ read.message refl)
+    unheard (Literal n l i at count) question read is = let same : question ≡ 11 = cc in rw same (refusing 11 _ read.message refl)
+    unheard (NoNode n l i) question read is = let same : question ≡ 11 = cc in rw same (refusing 11 _ read.message refl)
 
     replied : {a : List ℕ} {r : ℕ} (m : Option Msg) (answer : Msg) → m ≡ parse message
         → hearing σ (lent string nodes shingles cells []) m b ≡ writing (encode answer) b → Written b a (encode answer) r
@@ -162,25 +165,28 @@ module _ (σ : Settings) (string nodes shingles cells message b : List ℕ) (ref
           buffer_is = written_buffer _ w ∙ sym (ap (λ x. x.buffer) (heard m e ∙ h));
         }
 
-    pub opening_replied : {a : List ℕ} {r : ℕ} (answer : Message) (q : Query) → Reads message answer → q ≡ query_of_message answer → q.kind ≡ 1
-        → Written b a (encode (opening_of σ string nodes cells q.session)) r → Replied σ string nodes shingles cells message b a r
-    opening_replied (OpeningQuery n) q read is one w =
-        replied (some (opening_query n)) (opening_of σ string nodes cells n) read.message (opening_heard n) (rw is at w)
-    opening_replied Bad q read is one w = absurd (omega (arith, one, ap (λ x. x.kind) is))
-    opening_replied (NodeQuery n l i) q read is one w = absurd (omega (arith, one, ap (λ x. x.kind) is))
-    opening_replied (Opening n rule w' p L M q' len root at) q read is one w = absurd (omega (arith, one, ap (λ x. x.kind) is))
-    opening_replied (Composition n l i numbered x at count) q read is one w = absurd (omega (arith, one, ap (λ x. x.kind) is))
-    opening_replied (Literal n l i at count) q read is one w = absurd (omega (arith, one, ap (λ x. x.kind) is))
-    opening_replied (NoNode n l i) q read is one w = absurd (omega (arith, one, ap (λ x. x.kind) is))
+    pub opening_replied : {a : List ℕ} {r : ℕ} (answer : Message) (session : ℕ) → Reads message answer
+        → query_of_message answer ≡ Ok (asks.Opening session)
+        → Written b a (encode (opening_of σ string nodes cells session)) r → Replied σ string nodes shingles cells message b a r
+    opening_replied (OpeningQuery n) session read is w =
+        let same : session ≡ n = cc in
+        replied (some (opening_query n)) (opening_of σ string nodes cells n) read.message (opening_heard n) (rw same at w)
+    opening_replied Bad session read is w = absurd cc
+    opening_replied (NodeQuery n l i) session read is w = absurd cc
+    opening_replied (Opening n rule w' p L M q' len root at) session read is w = absurd cc
+    opening_replied (Composition n l i numbered x at count) session read is w = absurd cc
+    opening_replied (Literal n l i at count) session read is w = absurd cc
+    opening_replied (NoNode n l i) session read is w = absurd cc
 
-    pub node_replied : {a : List ℕ} {r : ℕ} (answer : Message) (q : Query) → Reads message answer → q ≡ query_of_message answer → q.kind ≡ 2
-        → Written b a (encode (node_reply_of σ string nodes shingles q.session q.level q.id)) r
+    pub node_replied : {a : List ℕ} {r : ℕ} (answer : Message) (asked : query.NodeQuery) → Reads message answer → query_of_message answer ≡ Ok (asks.Node asked)
+        → Written b a (encode (node_reply_of σ string nodes shingles asked.session asked.level asked.id)) r
         → Replied σ string nodes shingles cells message b a r
-    node_replied (NodeQuery n l i) q read is two w =
-        replied (some (node_query n l i)) (node_reply_of σ string nodes shingles n l i) read.message (node_heard n l i) (rw is at w)
-    node_replied Bad q read is two w = absurd (omega (arith, two, ap (λ x. x.kind) is))
-    node_replied (OpeningQuery n) q read is two w = absurd (omega (arith, two, ap (λ x. x.kind) is))
-    node_replied (Opening n rule w' p L M q' len root at) q read is two w = absurd (omega (arith, two, ap (λ x. x.kind) is))
-    node_replied (Composition n l i numbered x at count) q read is two w = absurd (omega (arith, two, ap (λ x. x.kind) is))
-    node_replied (Literal n l i at count) q read is two w = absurd (omega (arith, two, ap (λ x. x.kind) is))
-    node_replied (NoNode n l i) q read is two w = absurd (omega (arith, two, ap (λ x. x.kind) is))
+    node_replied (NodeQuery n l i) asked read is w =
+        let same : asked ≡ record { session = n; level = l; id = i } = cc in
+        replied (some (node_query n l i)) (node_reply_of σ string nodes shingles n l i) read.message (node_heard n l i) (rw same at w)
+    node_replied Bad asked read is w = absurd cc
+    node_replied (OpeningQuery n) asked read is w = absurd cc
+    node_replied (Opening n rule w' p L M q' len root at) asked read is w = absurd cc
+    node_replied (Composition n l i numbered x at count) asked read is w = absurd cc
+    node_replied (Literal n l i at count) asked read is w = absurd cc
+    node_replied (NoNode n l i) asked read is w = absurd cc

@@ -10,7 +10,7 @@ mod reference;
 ghost use Rattle.reply.specs.Reply.{Replied};
 
 use node::{node_reply, opening};
-use query::query_of;
+use query::{Query, query_of};
 use tree::Settings;
 
 // Replies to a message. Asked are 1 to 7 of the settings and of what is lent, 10, 11 and 20: the answer is the number of the first
@@ -37,21 +37,9 @@ pub fn reply(
     if refused != 0 {
         return refused;
     }
-    let asked = query_of(message::reader::read(message));
-    if asked.kind == 1 {
-        return opening(settings, string, nodes, cells, asked.session, buffer);
+    match query_of(message::reader::read(message)) {
+        Ok(Query::Opening { session }) => opening(settings, string, nodes, cells, session, buffer),
+        Ok(Query::Node(asked)) => node_reply(settings, string, nodes, shingles, asked, buffer),
+        Err(question) => question,
     }
-    if asked.kind == 2 {
-        return node_reply(
-            settings,
-            string,
-            nodes,
-            shingles,
-            asked.session,
-            asked.level,
-            asked.id,
-            buffer,
-        );
-    }
-    asked.kind
 }

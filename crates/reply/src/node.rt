@@ -8,6 +8,7 @@ ghost use Rattle.protocol.specs.Nodes.{block_in};
 ghost use Rattle.reply.specs.Parts.{Writable, composed_by, opening_of, node_reply_of};
 
 use crate::plan::{Plan, plan_node};
+use crate::query::NodeQuery;
 use tree::Settings;
 
 // Writes the opening of a session.
@@ -40,37 +41,35 @@ pub fn opening(
 }
 
 // Writes the bytes of the node of entry k.
-fn write_bytes(
-    string: &[u8],
-    nodes: &[u8],
-    session: u64,
-    level: u64,
-    id: u64,
-    k: usize,
-    buffer: &mut [u8],
-) -> u64
+fn write_bytes(string: &[u8], nodes: &[u8], asked: NodeQuery, k: usize, buffer: &mut [u8]) -> u64
     requires { inside (length string.now) (entry_at nodes.now k) ≡ true }
     ensures { Written buffer.old buffer.new
-        (encode (literal session level id (block_in string.now (entry_at nodes.now k)))) result }
+        (encode (literal asked.session asked.level asked.id (block_in string.now (entry_at nodes.now k)))) result }
 {
     let start = node_table::node_start(nodes, k) as usize;
     let length = node_table::node_length(nodes, k) as usize;
-    message_writer::write_literal(buffer, session, level, id, &string[start..start + length])
+    message_writer::write_literal(
+        buffer,
+        asked.session,
+        asked.level,
+        asked.id,
+        &string[start..start + length],
+    )
 }
 
 // Writes the composition that is planned.
-fn write_references(plan: Plan, session: u64, level: u64, id: u64, buffer: &mut [u8]) -> u64
+fn write_references(plan: Plan, asked: NodeQuery, buffer: &mut [u8]) -> u64
     requires { Writable plan }
-    ensures { Written buffer.old buffer.new (encode (composed_by plan session level id)) result }
+    ensures { Written buffer.old buffer.new (encode (composed_by plan asked.session asked.level asked.id)) result }
 {
     let count = plan.references.count;
     let indexes = plan.references.indexes;
     let counts = plan.references.counts;
     message_writer::write_composition(
         buffer,
-        session,
-        level,
-        id,
+        asked.session,
+        asked.level,
+        asked.id,
         plan.numbered,
         plan.number,
         &indexes[..count],
@@ -84,22 +83,20 @@ pub fn node_reply(
     string: &[u8],
     nodes: &[u8],
     shingles: &[u8],
-    session: u64,
-    level: u64,
-    id: u64,
+    asked: NodeQuery,
     buffer: &mut [u8],
 ) -> u64
     ensures { Written buffer.old buffer.new
-        (encode (node_reply_of settings string.now nodes.now shingles.now session level id)) result }
+        (encode (node_reply_of settings string.now nodes.now shingles.now asked.session asked.level asked.id)) result }
 {
     let size = string.len();
-    let k = node_table::find(nodes, size, level, level, id);
+    let level = asked.level;
+    let k = node_table::find(nodes, size, level, level, asked.id);
     if node_table::node_id(nodes, k) == 0 {
-        return message_writer::write_none(buffer, session, level, id);
+        return message_writer::write_none(buffer, asked.session, level, asked.id);
     }
-    let planned = plan_node(settings, size, nodes, shingles, level, k);
-    if planned.composed {
-        return write_references(planned, session, level, id, buffer);
+    if let Some(plan) = plan_node(settings, size, nodes, shingles, level, k) {
+        return write_references(plan, asked, buffer);
     }
-    write_bytes(string, nodes, session, level, id, k, buffer)
+    write_bytes(string, nodes, asked, k, buffer)
 }

@@ -1,5 +1,5 @@
 // What the reply about a node says, decided before anything is written.
-ghost use Rattle.std.specs.Prelude.{false, ◌&&◌, ◌≡◌, ◌+◌, ◌/◌, ◌<◌, length};
+ghost use Rattle.std.specs.Prelude.{◌&&◌, ◌≡◌, ◌+◌, ◌/◌, ◌<◌, length};
 ghost use Rattle.shingle.specs.Table.{shingles_in};
 ghost use Rattle.protocol.specs.Sender.{has_number, refs_of, referable};
 ghost use Rattle.reply.specs.Parts.{Planned, NodePlanned};
@@ -8,57 +8,40 @@ use crate::child::collect;
 use crate::reference::{References, refer};
 use tree::Settings;
 
-// A composition by these references, with the number of the children's trail if it is `numbered`; or, if it is not `composed`, the
-// node's bytes.
+// An order's number is answered as this and the number, which is sent up to 4,095.
+const NUMBERED: u64 = 4294967296;
+
+const LAST_NUMBERED: u64 = NUMBERED + 4095;
+
+// A composition by these references, with the number of the children's trail if it is `numbered`.
 #[derive(Clone, Copy)]
 pub struct Plan {
-    pub composed: bool,
     pub numbered: bool,
     pub number: u64,
     pub references: References,
 }
 
-// The node's bytes.
-fn plain() -> Plan
-    ensures { result.composed ≡ false }
-{
-    Plan {
-        composed: false,
-        numbered: false,
-        number: 0,
-        references: References {
-            count: 0,
-            indexes: [0; 32],
-            counts: [0; 32],
-        },
-    }
-}
-
 // Plans the reply about a node whose children have that level and these ids, if they can be numbered and referred to.
-fn plan_children(shingles: &[u8], level: u64, ids: &[u64]) -> Plan
+fn plan_children(shingles: &[u8], level: u64, ids: &[u64]) -> Option<Plan>
     ensures { Planned (has_number ids.now && referable (shingles_in shingles.now) level ids.now)
         ids.now (refs_of (shingles_in shingles.now) level ids.now) result }
 {
     let order = trail::number(ids);
-    if order.answer < 4294967296 {
-        return plain();
+    if order.answer < NUMBERED {
+        return None;
     }
-    if 4294971391 < order.answer {
-        return plain();
+    if LAST_NUMBERED < order.answer {
+        return None;
     }
-    let references = refer(shingles, level, ids);
-    if 32 < references.count {
-        return plain();
-    }
-    Plan {
-        composed: true,
+    let references = refer(shingles, level, ids)?;
+    Some(Plan {
         numbered: !order.only,
-        number: order.answer - 4294967296,
+        number: order.answer - NUMBERED,
         references,
-    }
+    })
 }
 
-// Plans the reply about the node of entry k, which has that level.
+// Plans the reply about the node of entry k, which has that level. Where there is no plan, the reply is the node's bytes.
 pub fn plan_node(
     settings: Settings,
     size: usize,
@@ -66,18 +49,15 @@ pub fn plan_node(
     shingles: &[u8],
     level: u64,
     k: usize,
-) -> Plan
+) -> Option<Plan>
     requires { k < length nodes.now / 16 }
     ensures { NodePlanned settings size nodes.now shingles.now level k result }
 {
     if settings.levels <= level {
-        return plain();
+        return None;
     }
-    let found = collect(nodes, size, level, k + 1);
+    let found = collect(nodes, size, level, k + 1)?;
     let count = found.count;
-    if 32 < count {
-        return plain();
-    }
     let ids = found.ids;
     plan_children(shingles, level + 1, &ids[..count])
 }

@@ -1,51 +1,44 @@
 // What a message that was read asks of a sender.
 ghost use Rattle.std.specs.Prelude.{◌≡◌};
-ghost use Rattle.reply.specs.Parts.{query, query_of_message};
+ghost use Rattle.reply.specs.Parts.{query_of_message};
 
 use message::Message;
 
-// Kind 1 asks for the opening and 2 for a node; else the kind is the number of the question that refuses the message.
-#[derive(Clone, Copy)]
-pub struct Query {
-    pub kind: u64,
+// The questions that refuse a message: whether it is well formed, and whether it asks anything of a sender.
+const WELL_FORMED: u64 = 10;
+
+const ASKS_A_SENDER: u64 = 11;
+
+// A node that is asked for in a session.
+#[derive(Clone, Copy, PartialEq, Eq)]
+pub struct NodeQuery {
     pub session: u64,
     pub level: u64,
     pub id: u64,
 }
 
-// A message that question `kind` refuses.
-fn refused(kind: u64) -> Query
-    ensures { result ≡ query kind 0 0 0 }
-{
-    Query {
-        kind,
-        session: 0,
-        level: 0,
-        id: 0,
-    }
+// What is asked for: the opening, or a node.
+#[derive(Clone, Copy, PartialEq, Eq)]
+pub enum Query {
+    Opening { session: u64 },
+    Node(NodeQuery),
 }
 
-// What the answer of the reader asks.
-pub fn query_of(m: Message) -> Query
+// What the answer of the reader asks, or the number of the question that refuses the message.
+pub fn query_of(m: Message) -> Result<Query, u64>
     ensures { result ≡ query_of_message m }
 {
     match m {
-        Message::Bad => refused(10),
-        Message::OpeningQuery { session } => Query {
-            kind: 1,
-            session,
-            level: 0,
-            id: 0,
-        },
-        Message::NodeQuery { session, level, id } => Query {
-            kind: 2,
+        Message::Bad => Err(WELL_FORMED),
+        Message::OpeningQuery { session } => Ok(Query::Opening { session }),
+        Message::NodeQuery { session, level, id } => Ok(Query::Node(NodeQuery {
             session,
             level,
             id,
-        },
-        Message::Opening { .. } => refused(11),
-        Message::Composition { .. } => refused(11),
-        Message::Literal { .. } => refused(11),
-        Message::NoNode { .. } => refused(11),
+        })),
+        Message::Opening { .. } => Err(ASKS_A_SENDER),
+        Message::Composition { .. } => Err(ASKS_A_SENDER),
+        Message::Literal { .. } => Err(ASKS_A_SENDER),
+        Message::NoNode { .. } => Err(ASKS_A_SENDER),
     }
 }

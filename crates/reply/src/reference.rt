@@ -9,8 +9,10 @@ ghost use Rattle.reply.specs.Parts.{Referred};
 
 use shingle::Shingle;
 
-// Reference k has entry k of the indexes and of the counts. Their number, or 33 if they are more than 32 or an index needs more than its
-// 12 bits.
+// An index has 12 bits.
+const LAST_INDEX: u64 = 4095;
+
+// So many references: reference k has entry k of the indexes and of the counts.
 #[derive(Clone, Copy)]
 pub struct References {
     pub count: usize,
@@ -19,74 +21,57 @@ pub struct References {
 }
 
 // 1 if the shingle's pair is that of a node of that level, its left sibling's id and its own; else 0.
+#[tactic(auto, unfolding(shingle::specs::Rising::same_pair))]
 fn once(s: Shingle, level: u64, previous: u64, own: u64) -> u64
     ensures { result ≡ cond (same_pair (pair_of s) (pair level previous own)) 1 0 }
 {
-    if s.level != level {
-        return 0;
+    if s.level == level && s.previous == previous && s.own == own {
+        1
+    } else {
+        0
     }
-    if s.previous != previous {
-        return 0;
-    }
-    if s.own != own {
-        return 0;
-    }
-    1
 }
 
 // How often the shingle's pair stands among the pairs of children of that level with these ids.
 fn times(s: Shingle, level: u64, ids: &[u64]) -> u64
     ensures { result ≡ how_many (pair_of s) (pairs_along level 0 ids.now) }
 {
-    let mut sum: u64 = 0;
-    let mut previous: u64 = 0;
-    let mut i = 0;
-    while i < ids.len() {
-        let own = ids[i];
-        sum = sum + once(s, level, previous, own);
-        previous = own;
-        i += 1;
+    let mut sum = 0;
+    let mut previous = 0;
+    for own in ids {
+        sum += once(s, level, previous, *own);
+        previous = *own;
     }
     sum
 }
 
-// The references of children of that level with these ids, rising by index.
-pub fn refer(shingles: &[u8], level: u64, ids: &[u64]) -> References
-    ensures { Referred (refs_of (shingles_in shingles.now) level ids.now) result.count result.indexes result.counts }
+// The references of children of that level with these ids, rising by index, if they are at most 32 and each index is within its 12 bits.
+pub fn refer(shingles: &[u8], level: u64, ids: &[u64]) -> Option<References>
+    ensures { Referred (refs_of (shingles_in shingles.now) level ids.now) result }
 {
     let end = shingle::size(shingles);
     let mut indexes = [0u64; 32];
     let mut counts = [0u64; 32];
     let mut count = 0;
-    let mut k = 0;
-    while k < end {
+    for k in 0..end {
         let s = shingle::shingle_at(shingles, k);
         let often = times(s, level, ids);
-        let index = k as u64;
-        k += 1;
         if often != 0 {
+            let index = k as u64;
             if count == 32 {
-                return References {
-                    count: 33,
-                    indexes,
-                    counts,
-                };
+                return None;
             }
-            if 4095 < index {
-                return References {
-                    count: 33,
-                    indexes,
-                    counts,
-                };
+            if LAST_INDEX < index {
+                return None;
             }
             indexes[count] = index;
             counts[count] = often;
             count += 1;
         }
     }
-    References {
+    Some(References {
         count,
         indexes,
         counts,
-    }
+    })
 }

@@ -1,19 +1,10 @@
--- The stratum of a hash, capped at 15.
+-- The stratum of a shingle, one of sixteen.
 use mathlib.Core.Path.{◌≡◌, ap, ◌∙◌}
-use Prim.Native.Nat.{ℕ, ◌≤◌, ◌<◌}
+use Prim.Native.Nat.{ℕ, ◌<◌}
 use native.Mathlib.Omega.{arith}
-use lib.Count.{count_trailing_zeros}
 use Rattle.shingle.specs.declared.Shingle.{Shingle}
 use Rattle.sketch.specs.Cells.{tag_of}
 use Rattle.strata.specs.Strata.{stratum_from, stratum_of}
-
-pub above : (hash zeros : ℕ) → zeros ≡ count_trailing_zeros 64 hash → 15 ≤ zeros → 15 ≡ stratum_from hash
-unfolding stratum_from
-above hash zeros e h = omega arith
-
-pub within : (hash zeros : ℕ) → zeros ≡ count_trailing_zeros 64 hash → zeros ≤ 15 → zeros ≡ stratum_from hash
-unfolding stratum_from
-within hash zeros e h = omega arith
 
 pub of_tag : (s : Shingle) (hash r : ℕ) → hash ≡ tag_of 3 s → r ≡ stratum_from hash → r ≡ stratum_of s
 unfolding stratum_of

@@ -3,14 +3,13 @@ use mathlib.Core.Bool.{Bool, beq, true, false, cond, not, ◌&&◌, ◌||◌}
 use mathlib.Core.List.{List, [], ◌∷◌}
 use mathlib.Core.Path.{◌≡◌, refl, sym, ap, ◌∙◌}
 use Prim.Native.Nat.{ℕ}
-use borrow.Author.Tests.{eq-eqb, ne_eqb}
 use lib.Dec.{eqb}
-use Rattle.entries.proofs.Linear.{both}
+use lib.ListN.{length}
 use Rattle.shingle.specs.declared.Shingle.{Shingle}
-use Rattle.shingle.specs.Table.{agree, holds}
+use Rattle.shingle.specs.Table.{agree, shingle_in_table, shingles_in, holds}
 use Rattle.shingle.proofs.Agreement.{agree_true}
 use Rattle.sketch.specs.Opening.{all_held, none_held}
-use Rattle.opening.proofs.Passing.{all_stop, all_next, none_stop, none_next}
+use Rattle.opening.proofs.Scanning.{Asked, at_places}
 use Rattle.sketch.proofs.NewList.{and_not}
 use Rattle.strata.specs.Strata.{stratum_of, of_stratum}
 use Rattle.strata.specs.Steps.{each_held}
@@ -30,36 +29,17 @@ holds_stratum i s (x ∷ ss) = go (eqb (stratum_of x) i) (agree s x) refl refl (
     go false true e f ih = ih ∙ rw (same f e)
     go false false e f ih = ih
 
--- A shingle asked for in a stratum: it goes elsewhere, or the list is asked.
-pub elsewhere : (i : ℕ) (s : Shingle) (ss : List Shingle) (j : ℕ) → j ≡ stratum_of s → (j ≡ i → ⊥) → false ≡ holds s (of_stratum i ss)
-elsewhere i s ss j e other = sym (holds_stratum i s ss ∙ rw (ne_eqb (stratum_of s) i (λ f. other (e ∙ f))))
-
-pub by_list : (i : ℕ) (s : Shingle) (ss : List Shingle) (j : ℕ) (r : Bool) → j ≡ stratum_of s → j ≡ i → r ≡ holds s ss → r ≡ holds s (of_stratum i ss)
-by_list i s ss j r e here is = is ∙ sym (holds_stratum i s ss ∙ rw (eq-eqb (stratum_of s) i (sym e ∙ here)))
-
--- A list in turn, each shingle asked whether it is an own one.
-module _ (want : Bool) (own : List Shingle) (s : Shingle) (ss : List Shingle) where
-  pub own_stop : (r : Bool) → r ≡ holds s own → not (beq r want) ≡ true → each_held want own (s ∷ ss) ≡ false
-  unfolding each_held
-  own_stop r is other = go want r is other
-    where
-      go : (want r : Bool) → r ≡ holds s own → not (beq r want) ≡ true → each_held want own (s ∷ ss) ≡ false
-      go true true e other = absurd (both other refl)
-      go true false e other = all_stop own s ss (sym e)
-      go false true e other = none_stop own s ss (sym e)
-      go false false e other = absurd (both other refl)
-
-  pub own_next : (r : Bool) → r ≡ holds s own → not (beq r want) ≡ false → each_held want own (s ∷ ss) ≡ each_held want own ss
-  unfolding each_held
-  own_next r is same = go want r is same
-    where
-      go : (want r : Bool) → r ≡ holds s own → not (beq r want) ≡ false → each_held want own (s ∷ ss) ≡ each_held want own ss
-      go true true e same = all_next own s ss (sym e)
-      go true false e same = absurd (both refl same)
-      go false true e same = absurd (both refl same)
-      go false false e same = none_next own s ss (sym e)
-
-pub own_none : (want : Bool) (own : List Shingle) → each_held want own [] ≡ true
+-- A list whose shingles are asked, each at its place, whether it is an own one.
+pub own_asked : (want : Bool) (own : List Shingle) (t : List ℕ) (n : ℕ) → n ≡ length (shingles_in t) → (r : Bool)
+    → Asked n r (λ k. beq (holds (shingle_in_table t k) own) want) → r ≡ each_held want own (shingles_in t)
 unfolding each_held all_held none_held
-own_none true own = refl
-own_none false own = refl
+own_asked true own t n size r = at_places (all_held own) (λ s ss. beq (holds s own) true) refl (λ s ss. ap (λ (b : Bool). b && all_held own ss) (yes (holds s own))) t n size r
+  where
+    yes : (b : Bool) → b ≡ beq b true
+    yes true = refl
+    yes false = refl
+own_asked false own t n size r = at_places (none_held own) (λ s ss. beq (holds s own) false) refl (λ s ss. ap (λ (b : Bool). b && none_held own ss) (neither (holds s own))) t n size r
+  where
+    neither : (b : Bool) → not b ≡ beq b false
+    neither true = refl
+    neither false = refl

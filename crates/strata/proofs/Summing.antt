@@ -1,4 +1,5 @@
 -- The sum from the highest stratum down: each turn takes one stratum, and the estimate from what is left is the whole estimate.
+use Rattle.std.proofs.Common.{None, Some}
 use mathlib.Core.Bool.{Bool, true, false, cond}
 use mathlib.Core.List.{List}
 use mathlib.Core.Path.{◌≡◌, refl, sym, ap, ◌∙◌}
@@ -44,12 +45,22 @@ module _ (levels : ℕ) (theirs own shingles : List ℕ) (sum left : ℕ) (s : S
       (estimate_from levels (left - 1) (sum + length (taken_in levels (left - 1) theirs own).taken) theirs own (shingles_in shingles))
       (sum * 2 ^ n)) {x = left - 1 + 1} {y = left} (omega arith)
 
-  module _ (opens : Bool) (count : ℕ) (l : Listed levels (left - 1) (part (left - 1) theirs) (part (left - 1) own) shingles opens count) where
-    verdict : opens ≡ stratum_opens (of_stratum (left - 1) (shingles_in shingles)) (taken_in levels (left - 1) theirs own)
-    verdict = rw room at l.verdict
+  pub sum_stop : Listed levels (left - 1) (part (left - 1) theirs) (part (left - 1) own) shingles None → (places : ℕ) → places ≡ left
+      → (sum * 2 ^ places) % 2 ^ 64 ≡ estimate_of levels theirs own (shingles_in shingles)
+  sum_stop unlisted places same =
+      let most = s.most in
+      let small = s.small in
+      let closed : stratum_opens (of_stratum (left - 1) (shingles_in shingles)) (taken_in levels (left - 1) theirs own) ≡ false = rw room at unlisted in
+      ap (λ (n : ℕ). (sum * 2 ^ n) % 2 ^ 64) same
+      ∙ shl_exact {a = sum} 8 left 64 (omega arith) (omega arith)
+      ∙ (sym (turn ∙ rw closed) ∙ s.is)
+
+  module _ (count : ℕ) (l : Listed levels (left - 1) (part (left - 1) theirs) (part (left - 1) own) shingles (Some count)) where
+    opened : stratum_opens (of_stratum (left - 1) (shingles_in shingles)) (taken_in levels (left - 1) theirs own) ≡ true
+    opened = rw room at l.0
 
     number : count ≡ length (taken_in levels (left - 1) theirs own).taken
-    number = rw room at l.number
+    number = rw room at l.1
 
     pub sum_fits : sum + count ≤ 192
     sum_fits =
@@ -57,22 +68,14 @@ module _ (levels : ℕ) (theirs own shingles : List ℕ) (sum left : ℕ) (s : S
         let small = s.small in
         omega (arith, number, twelve levels (stratum_rows (left - 1) theirs) (stratum_rows (left - 1) own))
 
-    pub sum_stop : opens ≡ false → (places : ℕ) → places ≡ left → (sum * 2 ^ places) % 2 ^ 64 ≡ estimate_of levels theirs own (shingles_in shingles)
-    sum_stop e places same =
-        let most = s.most in
-        let small = s.small in
-        ap (λ (n : ℕ). (sum * 2 ^ n) % 2 ^ 64) same
-        ∙ shl_exact {a = sum} 8 left 64 (omega arith) (omega arith)
-        ∙ (sym (turn ∙ rw (sym verdict ∙ e)) ∙ s.is)
-
-    pub sum_next : opens ≡ true → Summing levels theirs own shingles (sum + count) (left - 1)
-    sum_next e =
+    pub sum_next : Summing levels theirs own shingles (sum + count) (left - 1)
+    sum_next =
         let most = s.most in
         let small = s.small in
         record {
           most = omega arith;
           small = omega (arith, number, twelve levels (stratum_rows (left - 1) theirs) (stratum_rows (left - 1) own));
-          is = ap (λ (n : ℕ). estimate_from levels (left - 1) (sum + n) theirs own (shingles_in shingles)) number ∙ (sym (turn ∙ rw (sym verdict ∙ e)) ∙ s.is);
+          is = ap (λ (n : ℕ). estimate_from levels (left - 1) (sum + n) theirs own (shingles_in shingles)) number ∙ (sym (turn ∙ rw opened) ∙ s.is);
         }
 
 pub sum_end : (levels : ℕ) (theirs own shingles : List ℕ) (sum left : ℕ) → Summing levels theirs own shingles sum left → left ≤ 0

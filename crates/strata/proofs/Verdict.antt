@@ -15,7 +15,7 @@ use Rattle.sketch.proofs.NewList.{and_not}
 use Rattle.single.specs.Peeling.{rows_in, Taken}
 use Rattle.opening.proofs.Verdict.{signs_apart}
 use Rattle.strata.specs.Strata.{of_stratum, stratum_opens}
-use Rattle.strata.specs.Steps.{each_held, opens_with, Listed}
+use Rattle.strata.specs.Steps.{each_held, opens_with}
 
 -- The second of four tests comes last, where the others tell it.
 moved : (z t i o u : Bool) → (i ≡ true → o ≡ true → t ≡ u) → (z && (t && (i && o))) ≡ (z && (i && (o && u)))
@@ -32,29 +32,6 @@ unfolding stratum_opens opens_with each_held
 opens_apart own p =
     sym (moved (all_zero p.left) (no_shingle_twice (shingles_of p.taken)) (all_held own (negatives p.taken)) (none_held own (positives p.taken)) _
     (λ i o. signs_apart own p.taken i o))
-
--- Each way out of the tests is a case of the definition.
-module _ (empty : Bool) (new gone own : List Shingle) where
-  pub cells_left : empty ≡ false → false ≡ opens_with empty new gone own
-  unfolding opens_with
-  cells_left e = rw e
-
-  pub gone_elsewhere : each_held true own gone ≡ false → false ≡ opens_with empty new gone own
-  unfolding opens_with
-  gone_elsewhere e = rw (e, and_not empty)
-
-  pub new_own : each_held false own new ≡ false → false ≡ opens_with empty new gone own
-  unfolding opens_with
-  new_own e = rw (e, and_not (each_held true own gone), and_not empty)
-
-  pub new_twice : no_shingle_twice new ≡ false → false ≡ opens_with empty new gone own
-  unfolding opens_with
-  new_twice e = rw (e, and_not (each_held false own new), and_not (each_held true own gone), and_not empty)
-
-  pub by_gone : empty ≡ true → each_held true own gone ≡ true → each_held false own new ≡ true → no_shingle_twice new ≡ true
-      → (r : Bool) → r ≡ no_shingle_twice gone → r ≡ opens_with empty new gone own
-  unfolding opens_with
-  by_gone a b c d r e = rw (a, b, c, d) e
 
 -- What was taken has one sign or the other.
 pub taken_count : (zs : List Signed) → length (positives zs) + length (negatives zs) ≡ length zs
@@ -82,22 +59,21 @@ pub twelve : (levels : ℕ) (theirs own : List ℕ) → length (taken_of 4 level
 unfolding taken_of
 twelve levels theirs own = taken_few 4 levels 12 (difference_of theirs own)
 
+-- Whether a stratum opens, told by what was taken from its cells.
+pub told : {levels : ℕ} {theirs own new gone : List ℕ} {empty : Bool} → Taken levels 4 theirs own new gone empty
+    → (i : ℕ) (shingles : List ℕ) (opens : Bool) → opens ≡ opens_with empty (shingles_in new) (shingles_in gone) (of_stratum i (shingles_in shingles))
+    → stratum_opens (of_stratum i (shingles_in shingles)) (taken_of 4 levels (rows_in 4 theirs) (rows_in 4 own)) ≡ opens
+told {levels} {theirs} {own} t i shingles opens is =
+    sym (is ∙ ((λ x. opens_with (t.all x) ((t.positive refl).list x) ((t.negative refl).list x) (of_stratum i (shingles_in shingles)))
+    ∙ opens_apart (of_stratum i (shingles_in shingles)) (taken_of 4 levels (rows_in 4 theirs) (rows_in 4 own))))
+
 -- What is taken from a stratum's cells, in its two tables.
 module _ {levels : ℕ} {theirs own new gone : List ℕ} {empty : Bool} (t : Taken levels 4 theirs own new gone empty)
     (n m : ℕ) (e : n ≡ length (shingles_in new)) (f : m ≡ length (shingles_in gone)) where
-  number : n + m ≡ length (taken_of 4 levels (rows_in 4 theirs) (rows_in 4 own)).taken
+  pub number : n + m ≡ length (taken_of 4 levels (rows_in 4 theirs) (rows_in 4 own)).taken
   number =
       ap₂ (λ (a b : ℕ). a + b) (e ∙ ap length (t.positive refl).list) (f ∙ ap length (t.negative refl).list)
       ∙ taken_count (taken_of 4 levels (rows_in 4 theirs) (rows_in 4 own)).taken
 
   pub count_few : n + m ≤ 12
   count_few = omega (arith, number, twelve levels (rows_in 4 theirs) (rows_in 4 own))
-
-  pub listed : (i : ℕ) (shingles : List ℕ) (opens : Bool) → opens ≡ opens_with empty (shingles_in new) (shingles_in gone) (of_stratum i (shingles_in shingles))
-      → Listed levels i theirs own shingles opens (n + m)
-  listed i shingles opens is =
-      record {
-        verdict = is ∙ ((λ x. opens_with (t.all x) ((t.positive refl).list x) ((t.negative refl).list x) (of_stratum i (shingles_in shingles)))
-            ∙ opens_apart (of_stratum i (shingles_in shingles)) (taken_of 4 levels (rows_in 4 theirs) (rows_in 4 own)));
-        number = number;
-      }

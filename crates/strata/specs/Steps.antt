@@ -1,5 +1,5 @@
 -- What the crate's own functions promise each other.
-use Rattle.std.specs.Prelude.{Bool, true, false, ◌&&◌, List, ◌≡◌, ℕ, length}
+use Rattle.std.specs.Prelude.{Bool, true, false, ◌&&◌, List, ◌≡◌, ℕ, length, Option, MatchOption}
 use Rattle.shingle.specs.declared.Shingle.{Shingle}
 use Rattle.shingle.specs.Table.{shingles_in}
 use Rattle.sketch.specs.Opening.{no_shingle_twice, all_held, none_held, taken_of}
@@ -16,7 +16,9 @@ each_held false own ss = none_held own ss
 unfoldable pub opens_with : (empty : Bool) (new gone own : List Shingle) → Bool
 opens_with empty new gone own = empty && (each_held true own gone && (each_held false own new && (no_shingle_twice new && no_shingle_twice gone)))
 
--- Stratum i, of its two tables of cells: whether it opens, and how many shingles were taken from it.
-pub record Listed (levels i : ℕ) (theirs own shingles : List ℕ) (opens : Bool) (count : ℕ) : Type 0 where
-  pub verdict : opens ≡ stratum_opens (of_stratum i (shingles_in shingles)) (taken_of stratum_width levels (rows_in stratum_width theirs) (rows_in stratum_width own))
-  pub number : count ≡ length (taken_of stratum_width levels (rows_in stratum_width theirs) (rows_in stratum_width own)).taken
+-- Stratum i, of its two tables of cells: how many shingles were taken from it, if it opens.
+abbrev pub Listed : (levels i : ℕ) (theirs own shingles : List ℕ) (listed : Option ℕ) → Type 0
+Listed levels i theirs own shingles listed =
+    let taken = taken_of stratum_width levels (rows_in stratum_width theirs) (rows_in stratum_width own) in
+    let opened = stratum_opens (of_stratum i (shingles_in shingles)) taken in
+    MatchOption listed (opened ≡ false) (λ count. (opened ≡ true) × (count ≡ length taken.taken))

@@ -8,21 +8,12 @@ use super::{STRATA, STRATUM_BYTES, WIDTH, stratum};
 use shingle::Shingle;
 use single::TAKEN_BYTES;
 
-// Whether a stratum opens, and how many shingles it lists.
-#[derive(Clone, Copy)]
-struct Listing {
-    opens: bool,
-    count: usize,
-}
-
 // Whether a shingle is one of the own list's of stratum i.
+#[tactic(auto, using(crate::proofs::Members::holds_stratum))]
 fn is_own(shingles: &[u8], i: usize, s: Shingle) -> bool
     ensures { result ≡ holds s (of_stratum i (shingles_in shingles.now)) }
 {
-    if stratum(s) != i {
-        return false;
-    }
-    shingle::contains(shingles, s)
+    stratum(s) == i && shingle::contains(shingles, s)
 }
 
 // Whether each shingle of a list is one of the own list's of stratum i, or where `own` is false, none is.
@@ -30,47 +21,34 @@ fn each_own(shingles: &[u8], i: usize, list: &[u8], own: bool) -> bool
     ensures { result ≡ each_held own (of_stratum i (shingles_in shingles.now)) (shingles_in list.now) }
 {
     let n = shingle::size(list);
-    let mut k = 0;
-    while k < n {
-        let s = shingle::shingle_at(list, k);
-        if is_own(shingles, i, s) != own {
-            return false;
-        }
-        k += 1;
-    }
-    true
+    (0..n).all(|k| is_own(shingles, i, shingle::shingle_at(list, k)) == own)
 }
 
 // Whether stratum i opens, from what was taken and whether all its cells ended at 0.
+#[tactic(auto, unfolding(crate::specs::Steps::opens_with))]
 fn opens(empty: bool, new: &[u8], gone: &[u8], shingles: &[u8], i: usize) -> bool
     ensures { result ≡ opens_with empty (shingles_in new.now) (shingles_in gone.now)
         (of_stratum i (shingles_in shingles.now)) }
 {
-    if !empty {
-        return false;
-    }
-    if !each_own(shingles, i, gone, true) {
-        return false;
-    }
-    if !each_own(shingles, i, new, false) {
-        return false;
-    }
-    if !opening::none_twice(new) {
-        return false;
-    }
-    opening::none_twice(gone)
+    empty
+        && each_own(shingles, i, gone, true)
+        && each_own(shingles, i, new, false)
+        && opening::none_twice(new)
+        && opening::none_twice(gone)
 }
 
-// Opens stratum i of two tables, each lent with its 12 cells.
-fn open_stratum(levels: u64, theirs: &[u8], own: &[u8], shingles: &[u8], i: usize) -> Listing
-    ensures { Listed levels i theirs.now own.now shingles.now result.opens result.count }
+// Opens stratum i of two tables, each lent with its 12 cells: how many shingles it lists, if it opens.
+fn open_stratum(levels: u64, theirs: &[u8], own: &[u8], shingles: &[u8], i: usize) -> Option<usize>
+    ensures { Listed levels i theirs.now own.now shingles.now result }
 {
     let mut new = [0u8; TAKEN_BYTES];
     let mut gone = [0u8; TAKEN_BYTES];
     let empty = single::peel(levels, WIDTH, theirs, own, &mut new, &mut gone);
-    let opens = opens(empty, &new, &gone, shingles, i);
+    if !opens(empty, &new, &gone, shingles, i) {
+        return None;
+    }
     let count = shingle::size(&new) + shingle::size(&gone);
-    Listing { opens, count }
+    Some(count)
 }
 
 // The sum of what the strata list, from the highest down; at the first that does not open, times 2 for it and for each below it.
@@ -79,17 +57,14 @@ pub fn sum(levels: u64, theirs: &[u8], own: &[u8], shingles: &[u8]) -> u64
     ensures { result ≡ estimate_of levels theirs.now own.now (shingles_in shingles.now) }
 {
     let mut sum = 0;
-    let mut left = STRATA;
-    while 0 < left {
-        let i = left - 1;
+    for i in (0..STRATA).rev() {
         let from = i * STRATUM_BYTES;
         let to = from + STRATUM_BYTES;
-        let listing = open_stratum(levels, &theirs[from..to], &own[from..to], shingles, i);
-        if !listing.opens {
-            return sum << left;
-        }
-        sum += listing.count as u64;
-        left = i;
+        let Some(count) = open_stratum(levels, &theirs[from..to], &own[from..to], shingles, i)
+        else {
+            return sum << (i + 1);
+        };
+        sum += count as u64;
     }
     sum
 }

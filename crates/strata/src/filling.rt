@@ -13,11 +13,9 @@ pub fn fill(shingles: &[u8], strata: &mut [u8])
 {
     rows::clear(strata, 0);
     let n = shingle::size(shingles);
-    let mut k = 0;
-    while k < n {
+    for k in 0..n {
         let s = shingle::shingle_at(shingles, k);
         let from = stratum(s) * STRATUM_BYTES;
         sketch::put(&mut strata[from..from + STRATUM_BYTES], WIDTH, false, s);
-        k += 1;
     }
 }

@@ -6,12 +6,9 @@ ghost use Rattle.strata.specs.Strata.{stratum_from};
 const HIGHEST: usize = 15;
 
 // The trailing zero bits of a hash, 15 at most.
+#[tactic(auto, unfolding(crate::specs::Strata::stratum_from))]
 pub fn of_hash(hash: u64) -> usize
     ensures { result ≡ stratum_from hash }
 {
-    let zeros = u64::trailing_zeros(hash) as usize;
-    if HIGHEST < zeros {
-        return HIGHEST;
-    }
-    zeros
+    (hash.trailing_zeros() as usize).min(HIGHEST)
 }

@@ -1,15 +1,9 @@
-use mathlib.Core.Path.{refl}
-use Prim.Native.Nat.{◌-◌}
-use native.Mathlib.Omega.{arith}
-use borrow.Author.Rules.{rules}
+use Rattle.std.proofs.Common.{refl, arith, rules}
 use Rattle.copying.proofs.Appending.{appending_start, appending_next, appending_end}
 use Rattle.copying.proofs.output.append.Goals as goal
 
 pub loop-j-init : goal.loop-j-init
 loop-j-init c = appending_start _ _ (search rules)
-
-pub bounds-bytes-j : goal.bounds-bytes-j
-bounds-bytes-j c = let inv = c.loop-j.invariant in omega (arith, inv.size, c.loop-j-test.true)
 
 pub bounds-part-j : goal.bounds-part-j
 bounds-part-j c = let inv = c.loop-j.invariant in omega (arith, inv.size, inv.fits, inv.long, c.loop-j-test.true)

@@ -1,29 +1,30 @@
 use mathlib.Core.Path.{refl}
-use Prim.Native.Nat.{◌-◌}
+use native.Mathlib.Omega.{arith}
 use borrow.Author.Rules.{rules}
-use Rattle.copying.proofs.Settling.{turning_start, none_pending, not_there, too_much, copied, zeroed}
 use borrow.Author.Tests.{not-true, not-false}
+use Rattle.copying.proofs.Settling.{turning_start, none_pending, not_there, too_much, copied, zeroed}
 use Rattle.copying.proofs.turns.copy_known.Goals as goal
 
-pub loop-left-init : goal.loop-left-init
-loop-left-init c = turning_start _ _ _ _ _ _ _ (search rules) (search rules) (search rules)
+pub loop-below-init : goal.loop-below-init
+loop-below-init c = turning_start _ _ _ _ _ _ _ (search rules) (search rules) (search rules)
 
 pub returns-then-not-place : goal.returns-then-not-place
-returns-then-not-place c = not_there _ _ _ _ _ _ _ _ _ _ c.loop-left.invariant c.loop-left-test.true _ refl _ c.find-place.ensures (not-true _ c.if-not-place.true)
+returns-then-not-place c =
+    not_there _ _ _ _ _ _ _ _ _ _ c.loop-below.invariant c.loop-below-test.true _ refl _ c.find-place.ensures (not-true _ c.if-not-place.true) _ (omega arith)
 
 pub returns-then-size-at : goal.returns-then-size-at
 returns-then-size-at c =
-    let inv = c.loop-left.invariant in
+    let inv = c.loop-below.invariant in
     let there = not-false _ c.if-not-place.false in
     zeroed _ _ _ _ _ _ _ _ _ _
-    (too_much _ _ _ _ _ _ _ _ _ _ inv c.loop-left-test.true _ refl _ c.find-place.ensures there c.if-size-at.true)
+    (too_much _ _ _ _ _ _ _ _ _ _ inv c.loop-below-test.true _ refl _ c.find-place.ensures there c.if-size-at.true)
     inv.long c.too_long.ensures
 
-pub loop-left-preserved : goal.loop-left-preserved
-loop-left-preserved c =
-    let inv = c.loop-left.invariant in
+pub loop-below-preserved : goal.loop-below-preserved
+loop-below-preserved c =
+    let inv = c.loop-below.invariant in
     let there = not-false _ c.if-not-place.false in
-    copied _ _ _ _ _ _ _ _ _ _ inv c.loop-left-test.true _ refl _ c.find-place.ensures there c.if-size-at.false _ _ _ _ c.append.ensures refl refl refl
+    copied _ _ _ _ _ _ _ _ _ _ inv c.loop-below-test.true _ refl _ c.find-place.ensures there c.if-size-at.false _ _ _ _ c.append.ensures refl refl refl
 
 pub returns : goal.returns
-returns c = none_pending _ _ _ _ _ _ _ _ _ _ c.loop-left.invariant c.loop-left-test.false
+returns c = none_pending _ _ _ _ _ _ _ _ _ _ c.loop-below.invariant c.loop-below-test.false

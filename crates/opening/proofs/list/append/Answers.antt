@@ -1,4 +1,3 @@
-use Prim.Native.Nat.{◌-◌}
 use borrow.Author.Rules.{rules}
 use Rattle.opening.proofs.Keeping.{appending_start, appending_next, appending_end}
 use Rattle.opening.proofs.list.append.Goals as goal

@@ -1,26 +1,15 @@
-use Rattle.std.proofs.Common.{ap, not}
 use mathlib.Core.Bool.{true, false}
-use mathlib.Core.Path.{refl, sym, ◌∙◌}
-use Prim.Native.Nat.{◌-◌}
-use Rattle.sketch.specs.Opening.{all_held}
-use Rattle.sketch.proofs.NewList.{not_true}
-use Rattle.opening.proofs.Scanning.{scan_start, scan_stop, scan_next, scan_end}
-use Rattle.opening.proofs.Passing.{not_false, all_stop, all_next}
+use mathlib.Core.Path.{◌≡◌, refl}
+use Prim.Native.Nat.{ℕ}
+use borrow.Author.Rules.{rules}
+use Rattle.std.proofs.lemmas.Iterator.{cases_from_all, YieldsList-from_range}
+use Rattle.shingle.specs.Table.{shingle_in_table, shingles_in, holds}
+use Rattle.opening.proofs.Passing.{all_asked}
 use Rattle.opening.proofs.taken.all_in.Goals as goal
 
-pub loop-k-init : goal.loop-k-init
-loop-k-init c = scan_start _ _ _ _ c.size-n.ensures
-
-pub returns-then-not-contains : goal.returns-then-not-contains
-returns-then-not-contains c =
-    scan_stop _ _ _ _ _ c.loop-k.invariant c.loop-k-test.true _ c.shingle_at-s.ensures false
-    (all_stop _ _ _ (sym c.contains.ensures ∙ not_true _ (ap not c.if-not-contains.true)))
-
-pub loop-k-preserved : goal.loop-k-preserved
-loop-k-preserved c =
-    scan_next _ _ _ _ _ c.loop-k.invariant c.loop-k-test.true _ c.shingle_at-s.ensures
-    (all_next _ _ _ (sym c.contains.ensures ∙ not_false _ (ap not c.if-not-contains.false)))
-
 pub returns : goal.returns
-unfolding all_held
-returns c = scan_end _ _ _ _ _ c.loop-k.invariant true refl c.loop-k-test.false
+returns c =
+    let test = λ (k : ℕ). holds (shingle_in_table c.args.list.now k) (shingles_in c.args.own.now) in
+    all_asked _ _ c.size-n.ensures _ _
+    (cases_from_all _ _ _ (λ k. test k ≡ true) (λ k. test k ≡ false) c.all.ensures.ran
+    (YieldsList-from_range 0 _ _ refl refl) (λ x q k. search rules) (λ x q k. search rules))

@@ -1,31 +1,16 @@
-use mathlib.Core.Bool.{true, false}
-use mathlib.Core.Path.{refl, sym, ◌∙◌}
-use Prim.Native.Nat.{◌+◌, ◌-◌}
-use native.Mathlib.Omega.{arith}
-use Rattle.sketch.specs.Opening.{no_shingle_twice}
-use Rattle.opening.proofs.Scanning.{scan_start, scan_stop, scan_next, scan_end, list_room, list_part}
-use Rattle.opening.proofs.Passing.{twice_stop, twice_next}
+use mathlib.Core.Bool.{true, false, not}
+use mathlib.Core.Path.{◌≡◌, refl}
+use Prim.Native.Nat.{ℕ, ◌+◌}
+use borrow.Author.Rules.{rules}
+use lib.ListN.{drop}
+use Rattle.std.proofs.lemmas.Iterator.{cases_from_all, YieldsList-from_range}
+use Rattle.shingle.specs.Table.{shingle_in_table, shingles_in, holds}
+use Rattle.opening.proofs.Passing.{twice_asked}
 use Rattle.opening.proofs.taken.none_twice.Goals as goal
 
-pub loop-k-init : goal.loop-k-init
-loop-k-init c = (list_room _ _ c.size-n.ensures, scan_start _ _ _ _ c.size-n.ensures)
-
-pub returns-then-contains : goal.returns-then-contains
-returns-then-contains c =
-    let inv = c.loop-k.invariant.1 in
-    scan_stop _ _ _ _ _ inv c.loop-k-test.true _ c.shingle_at-s.ensures false
-    (twice_stop _ _ _ (list_part _ (c.loop-k.k + 1) (omega (arith, inv.size, c.loop-k-test.true)))
-    (sym c.contains.ensures ∙ c.if-contains.true))
-
-pub loop-k-preserved : goal.loop-k-preserved
-loop-k-preserved c =
-    let inv = c.loop-k.invariant.1 in (
-      c.loop-k.invariant.0,
-      scan_next _ _ _ _ _ inv c.loop-k-test.true _ c.shingle_at-s.ensures
-          (twice_next _ _ _ (list_part _ (c.loop-k.k + 1) (omega (arith, inv.size, c.loop-k-test.true)))
-          (sym c.contains.ensures ∙ c.if-contains.false)),
-    )
-
 pub returns : goal.returns
-unfolding no_shingle_twice
-returns c = scan_end _ _ _ _ _ c.loop-k.invariant.1 true refl c.loop-k-test.false
+returns c =
+    let test = λ (k : ℕ). not (holds (shingle_in_table c.args.list.now k) (drop (k + 1) (shingles_in c.args.list.now))) in
+    twice_asked _ _ c.size-n.ensures _
+    (cases_from_all _ _ _ (λ k. test k ≡ true) (λ k. test k ≡ false) c.all.ensures.ran
+    (YieldsList-from_range 0 _ _ refl refl) (λ x q k. search rules) (λ x q k. search rules))

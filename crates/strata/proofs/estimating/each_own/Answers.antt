@@ -1,21 +1,16 @@
-use mathlib.Core.Bool.{true, false}
-use Prim.Native.Nat.{◌-◌}
-use Rattle.opening.proofs.Scanning.{scan_start, scan_stop, scan_next, scan_end}
-use Rattle.strata.proofs.Members.{own_stop, own_next, own_none}
+use mathlib.Core.Bool.{true, false, beq}
+use mathlib.Core.Path.{◌≡◌, refl}
+use Prim.Native.Nat.{ℕ}
+use borrow.Author.Rules.{rules}
+use Rattle.std.proofs.lemmas.Iterator.{cases_from_all, YieldsList-from_range}
+use Rattle.shingle.specs.Table.{shingle_in_table, shingles_in, holds}
+use Rattle.strata.specs.Strata.{of_stratum}
+use Rattle.strata.proofs.Members.{own_asked}
 use Rattle.strata.proofs.estimating.each_own.Goals as goal
 
-pub loop-k-init : goal.loop-k-init
-loop-k-init c = scan_start _ _ _ _ c.size-n.ensures
-
-pub returns-then-is_own-own : goal.returns-then-is_own-own
-returns-then-is_own-own c =
-    scan_stop _ _ _ _ _ c.loop-k.invariant c.loop-k-test.true _ c.shingle_at-s.ensures false
-    (own_stop _ _ _ _ _ c.is_own.ensures c.if-is_own-own.true)
-
-pub loop-k-preserved : goal.loop-k-preserved
-loop-k-preserved c =
-    scan_next _ _ _ _ _ c.loop-k.invariant c.loop-k-test.true _ c.shingle_at-s.ensures
-    (own_next _ _ _ _ _ c.is_own.ensures c.if-is_own-own.false)
-
 pub returns : goal.returns
-returns c = scan_end _ _ _ _ _ c.loop-k.invariant true (own_none _ _) c.loop-k-test.false
+returns c =
+    let test = λ (k : ℕ). beq (holds (shingle_in_table c.args.list.now k) (of_stratum c.args.i (shingles_in c.args.shingles.now))) c.args.own in
+    own_asked _ _ _ _ c.size-n.ensures _
+    (cases_from_all _ _ _ (λ k. test k ≡ true) (λ k. test k ≡ false) c.all.ensures.ran
+    (YieldsList-from_range 0 _ _ refl refl) (λ x q k. search rules) (λ x q k. search rules))

@@ -2,8 +2,5 @@
 use Rattle.strata.proofs.Summing.{Summing}
 use Rattle.strata.proofs.estimating.sum.Given as goal
 
-abbrev pub invariant-loop-left : goal.invariant-loop-left
-invariant-loop-left l = Summing l.levels l.theirs l.own l.shingles l.sum l.left
-
-abbrev pub decreases-loop-left : goal.decreases-loop-left
-decreases-loop-left l = l.left
+abbrev pub invariant-loop-i : goal.invariant-loop-i
+invariant-loop-i l = Summing l.levels l.theirs l.own l.shingles l.sum l.i

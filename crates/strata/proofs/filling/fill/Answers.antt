@@ -1,5 +1,4 @@
 use mathlib.Core.Path.{sym, ◌∙◌}
-use Prim.Native.Nat.{◌-◌}
 use native.Mathlib.Omega.{arith}
 use Rattle.strata.proofs.Capped.{below_sixteen}
 use Rattle.strata.proofs.Turns.{filling_long, filling_start, filling_next, filling_end}

@@ -1,6 +1,6 @@
 -- Each way out is a case of the definition: the laws of `Collecting`.
 use Rattle.reply.proofs.Collecting.{role_unused, role_outside, role_end, role_child, role_deeper}
-use Rattle.reply.proofs.child.role.Goals as goal
+use Rattle.reply.proofs.child.role_of.Goals as goal
 
 pub returns-then-node_id-eq0 : goal.returns-then-node_id-eq0
 returns-then-node_id-eq0 c = role_unused _ _ _ _ _ c.node_id.ensures c.if-node_id-eq0.true
