@@ -6,8 +6,8 @@ use Prim.Native.Nat.{ℕ, ◌^◌, ◌≤◌, ◌<◌}
 use native.Mathlib.Nat.{suc-ne-zero}
 use native.Mathlib.Omega.{arith}
 use native.Mathlib.Decide.{dec_lt}
-use borrow.Author.Tests.{eq-eqb, ne_eqb, lt-leb, le-leb, lt-ltb, le-ltb}
-use lib.Dec.{leb, ltb}
+use borrow.Author.Tests.{eq-eqb, ne_eqb, lt-leb, le-leb}
+use lib.Dec.{leb}
 use lib.ListN.{length, drop}
 use Rattle.tree.specs.declared.Settings.{Settings}
 use Rattle.tree.specs.Questions.{ask, within, refusal}
@@ -28,16 +28,6 @@ use Rattle.state_bytes.specs.Bytes.{state_in, state_rows, Stores}
 use Rattle.taking.specs.Taking.{unmoved, struct_after, Takes}
 use Rattle.receiver.specs.Calls.{state_after as state_made, ReceiverSetUp, Asked}
 use Rattle.held.specs.Held.{decode, bytes_after, HeldSetUp, state_after, HeldTakes}
-
--- The two tests of `refuses`.
-pub tests_both : (k : ℕ) → 0 < k → ltb k 12 ≡ within 1 11 k
-tests_both k above = elim (dec_lt k 12) [
-  | yes low ↦ rw (lt-ltb k 12 low, le-leb 1 k above, le-leb k 11 (omega (arith, low)))
-  | no high ↦ rw (le-ltb k 12 (omega (arith, high)), le-leb 1 k above, lt-leb k 11 (omega (arith, high)))
-]
-
-pub tests_first : (k : ℕ) → k ≤ 0 → false ≡ within 1 11 k
-tests_first k none = rw (lt-leb 1 k (omega arith))
 
 -- A state of fewer than 2,144 bytes is refused by 1.
 short_refused : (state string nodes shingles cells message output : List ℕ) → length state < 2144

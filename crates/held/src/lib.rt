@@ -9,6 +9,12 @@ ghost use Rattle.held.specs.Held.{HeldSetUp, HeldTakes};
 
 use tree::Settings;
 
+// An answer from here on is no refusal.
+const ACCEPTED: u64 = 4294967296;
+
+// How many bytes a state has.
+const SIZE: usize = 2144;
+
 // Sets a receiver up: its three tables are filled from its own string, and its state is written to the front of the bytes. Asked are 1
 // to 8, and 7 of the state too: the answer is the number of the first that fails, or 2^32 and the number of nodes. A no leaves the state
 // as it is.
@@ -28,12 +34,12 @@ pub fn setup(
     if refused != 0 {
         return refused;
     }
-    if state.len() < 2144 {
+    if state.len() < SIZE {
         return 7;
     }
     let made = receiver::setup(settings, session, string, nodes, shingles, cells);
     let answer = made.answer;
-    if answer < 4294967296 {
+    if answer < ACCEPTED {
         return answer;
     }
     state_bytes::store(state, made.state);
@@ -44,10 +50,7 @@ pub fn setup(
 fn refuses(answer: u64) -> bool
     ensures { result ≡ within 1 11 answer }
 {
-    if 0 < answer {
-        return answer < 12;
-    }
-    false
+    0 < answer && answer < 12
 }
 
 // Takes a message. Asked are 1 to 7, 9 to 11, and 12 to 19: the answer is the number of the first that fails, 0 while the session goes

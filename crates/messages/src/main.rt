@@ -12,56 +12,58 @@ use message_writer::{
 use std::io;
 use std::io::{BufWriter, Read, Write};
 
+// An id with all digits.
+const ID: u64 = 81985529216486895;
+
 // Fills the bytes with a pattern: byte i is 37 times i plus 11, modulo 256.
 fn pattern(bytes: &mut [u8]) {
-    for i in 0..bytes.len() {
-        bytes[i] = ((i % 256 * 37 + 11) % 256) as u8;
+    for (i, byte) in bytes.iter_mut().enumerate() {
+        *byte = ((i % 256 * 37 + 11) % 256) as u8;
     }
 }
 
-fn opening_query_case<W: Write>(out: &mut W, session: u64, buffer: &mut [u8]) -> io::Result<()> {
-    let answer = write_opening_query(buffer, session);
-    show::written(out, answer, buffer)
+fn queries<W: Write>(out: &mut W) -> io::Result<()> {
+    let mut buffer = [170u8; 32];
+    for session in [5, 16777215, 16777221] {
+        let answer = write_opening_query(&mut buffer, session);
+        show::written(out, answer, &buffer)?;
+    }
+    for (session, level, id) in [(5, 3, ID), (0, 268435455, u64::MAX)] {
+        let answer = write_node_query(&mut buffer, session, level, id);
+        show::written(out, answer, &buffer)?;
+    }
+    let answer = write_none(&mut buffer, 1, 0, 0);
+    show::written(out, answer, &buffer)
 }
 
-fn node_query_case<W: Write>(
-    out: &mut W,
-    session: u64,
-    level: u64,
-    id: u64,
-    buffer: &mut [u8],
-) -> io::Result<()> {
-    let answer = write_node_query(buffer, session, level, id);
-    show::written(out, answer, buffer)
+// Buffers that lack a byte.
+fn short_queries<W: Write>(out: &mut W) -> io::Result<()> {
+    let mut short = [170u8; 7];
+    let answer = write_opening_query(&mut short, 5);
+    show::written(out, answer, &short)?;
+    let mut nearly = [170u8; 23];
+    let answer = write_node_query(&mut nearly, 5, 3, 1);
+    show::written(out, answer, &nearly)?;
+    let answer = write_none(&mut nearly, 5, 3, 1);
+    show::written(out, answer, &nearly)
 }
 
-fn none_case<W: Write>(
-    out: &mut W,
-    session: u64,
-    level: u64,
-    id: u64,
-    buffer: &mut [u8],
-) -> io::Result<()> {
-    let answer = write_none(buffer, session, level, id);
-    show::written(out, answer, buffer)
+// Literals of the pattern's bytes.
+fn literals<W: Write>(out: &mut W) -> io::Result<()> {
+    let mut buffer = [170u8; 160];
+    let mut text = [0u8; 103];
+    pattern(&mut text);
+    for (level, size) in [(0, 0), (1, 1), (2, 2), (3, 3), (4, 100), (4, 103)] {
+        let end = text.len().min(size);
+        let answer = write_literal(&mut buffer, 9, level, ID, &text[..end]);
+        show::written(out, answer, &buffer)?;
+    }
+    Ok(())
 }
 
-// A literal of the pattern's bytes.
-fn literal_case<W: Write>(
+fn composition<W: Write>(
     out: &mut W,
-    level: u64,
-    text: &mut [u8],
-    buffer: &mut [u8],
-) -> io::Result<()> {
-    pattern(text);
-    let answer = write_literal(buffer, 9, level, 81985529216486895, text);
-    show::written(out, answer, buffer)
-}
-
-fn composition_case<W: Write>(
-    out: &mut W,
-    numbered: bool,
-    number: u64,
+    number: Option<u64>,
     indexes: &[u64],
     counts: &[u64],
     buffer: &mut [u8],
@@ -70,22 +72,60 @@ fn composition_case<W: Write>(
         buffer,
         16777215,
         3,
-        18446744073709551615,
-        numbered,
-        number,
+        u64::MAX,
+        number.is_some(),
+        number.unwrap_or(0),
         indexes,
         counts,
     );
     show::written(out, answer, buffer)
 }
 
+// Compositions with a number or without: of one reference, of five that rise, of five that fall, of none, of an index twice, and of ten.
+fn short_compositions<W: Write>(out: &mut W, numbered: bool, buffer: &mut [u8]) -> io::Result<()> {
+    let stated = |number| if numbered { Some(number) } else { None };
+    composition(out, stated(0), &[0], &[1], buffer)?;
+    composition(
+        out,
+        stated(4095),
+        &[0, 1, 7, 12, 4095],
+        &[1, 31, 2, 3, 32],
+        buffer,
+    )?;
+    composition(
+        out,
+        stated(4095),
+        &[4095, 0, 7, 12, 1],
+        &[32, 1, 2, 3, 31],
+        buffer,
+    )?;
+    composition(out, stated(4096), &[], &[], buffer)?;
+    composition(out, stated(1), &[3, 3], &[1, 1], buffer)?;
+    composition(
+        out,
+        stated(1),
+        &[1, 2, 3, 4, 5, 6, 7, 8, 9, 10],
+        &[1; 10],
+        buffer,
+    )
+}
+
+// Ten references and a number do not fit the buffer; without the number ten fit, and eleven do not.
+fn compositions<W: Write>(out: &mut W) -> io::Result<()> {
+    let mut buffer = [170u8; 64];
+    short_compositions(out, true, &mut buffer)?;
+    short_compositions(out, false, &mut buffer)?;
+    composition(
+        out,
+        None,
+        &[1, 2, 3, 4, 5, 6, 7, 8, 9, 10, 11],
+        &[1; 11],
+        &mut buffer,
+    )
+}
+
 // An opening of a cell table that holds the pattern.
-fn opening_case<W: Write>(
-    out: &mut W,
-    q: u64,
-    cells: &mut [u8],
-    buffer: &mut [u8],
-) -> io::Result<()> {
+fn opening<W: Write>(out: &mut W, q: u64, cells: &mut [u8], buffer: &mut [u8]) -> io::Result<()> {
     pattern(cells);
     let answer = write_opening(
         buffer,
@@ -103,105 +143,11 @@ fn opening_case<W: Write>(
     show::written(out, answer, buffer)
 }
 
-fn queries<W: Write>(out: &mut W) -> io::Result<()> {
-    let mut buffer = [170u8; 32];
-    opening_query_case(out, 5, &mut buffer)?;
-    opening_query_case(out, 16777215, &mut buffer)?;
-    opening_query_case(out, 16777221, &mut buffer)?;
-    node_query_case(out, 5, 3, 81985529216486895, &mut buffer)?;
-    node_query_case(out, 0, 268435455, 18446744073709551615, &mut buffer)?;
-    none_case(out, 1, 0, 0, &mut buffer)?;
-    let mut short = [170u8; 7];
-    opening_query_case(out, 5, &mut short)?;
-    let mut nearly = [170u8; 23];
-    node_query_case(out, 5, 3, 1, &mut nearly)?;
-    none_case(out, 5, 3, 1, &mut nearly)
-}
-
-fn literals<W: Write>(out: &mut W) -> io::Result<()> {
-    let mut buffer = [170u8; 160];
-    let mut empty = [0u8; 0];
-    literal_case(out, 0, &mut empty, &mut buffer)?;
-    let mut one = [0u8; 1];
-    literal_case(out, 1, &mut one, &mut buffer)?;
-    let mut two = [0u8; 2];
-    literal_case(out, 2, &mut two, &mut buffer)?;
-    let mut three = [0u8; 3];
-    literal_case(out, 3, &mut three, &mut buffer)?;
-    let mut hundred = [0u8; 100];
-    literal_case(out, 4, &mut hundred, &mut buffer)?;
-    let mut long = [0u8; 103];
-    literal_case(out, 4, &mut long, &mut buffer)
-}
-
-// Compositions with a number or without: of one reference, of five that rise, of five that fall, of none, of an index twice.
-fn short_compositions<W: Write>(out: &mut W, numbered: bool, buffer: &mut [u8]) -> io::Result<()> {
-    composition_case(out, numbered, 0, &[0], &[1], buffer)?;
-    composition_case(
-        out,
-        numbered,
-        4095,
-        &[0, 1, 7, 12, 4095],
-        &[1, 31, 2, 3, 32],
-        buffer,
-    )?;
-    composition_case(
-        out,
-        numbered,
-        4095,
-        &[4095, 0, 7, 12, 1],
-        &[32, 1, 2, 3, 31],
-        buffer,
-    )?;
-    composition_case(out, numbered, 4096, &[], &[], buffer)?;
-    composition_case(out, numbered, 1, &[3, 3], &[1, 1], buffer)
-}
-
-fn ten_references<W: Write>(out: &mut W, numbered: bool, buffer: &mut [u8]) -> io::Result<()> {
-    composition_case(
-        out,
-        numbered,
-        1,
-        &[1, 2, 3, 4, 5, 6, 7, 8, 9, 10],
-        &[1, 1, 1, 1, 1, 1, 1, 1, 1, 1],
-        buffer,
-    )
-}
-
-fn eleven_references<W: Write>(out: &mut W, buffer: &mut [u8]) -> io::Result<()> {
-    composition_case(
-        out,
-        false,
-        1,
-        &[1, 2, 3, 4, 5, 6, 7, 8, 9, 10, 11],
-        &[1, 1, 1, 1, 1, 1, 1, 1, 1, 1, 1],
-        buffer,
-    )
-}
-
-// Ten references and a number do not fit the buffer; without the number ten fit, and eleven do not.
-fn compositions<W: Write>(out: &mut W) -> io::Result<()> {
-    let mut buffer = [170u8; 64];
-    short_compositions(out, true, &mut buffer)?;
-    ten_references(out, true, &mut buffer)?;
-    short_compositions(out, false, &mut buffer)?;
-    ten_references(out, false, &mut buffer)?;
-    eleven_references(out, &mut buffer)
-}
-
 fn openings<W: Write>(out: &mut W) -> io::Result<()> {
     let mut buffer = [170u8; 16384];
-    let mut one = [0u8; 120];
-    opening_case(out, 1, &mut one, &mut buffer)?;
-    let mut all = [0u8; 7680];
-    opening_case(out, 64, &mut all, &mut buffer)?;
-    let mut short = [170u8; 200];
-    opening_case(out, 1, &mut one, &mut short)
-}
-
-// Four bytes as one number, a the most significant.
-fn word(a: u8, b: u8, c: u8, d: u8) -> u64 {
-    ((a as u64 * 256 + b as u64) * 256 + c as u64) * 256 + d as u64
+    opening(out, 1, &mut [0; 120], &mut buffer)?;
+    opening(out, 64, &mut [0; 7680], &mut buffer)?;
+    opening(out, 1, &mut [0; 120], &mut [170; 200])
 }
 
 // Reads until the buffer is full or the input ends, and answers how many bytes were read.
@@ -220,27 +166,15 @@ fn read_full<R: Read>(input: &mut R, buffer: &mut [u8]) -> io::Result<usize> {
     Ok(done)
 }
 
-// The length of the next message; 2^32 where there is none.
-fn next_length<R: Read>(input: &mut R) -> io::Result<u64> {
+// The length of the next message, if there is one.
+fn next_length<R: Read>(input: &mut R) -> io::Result<Option<usize>> {
     let mut head = [0u8; 4];
-    if read_full(input, &mut head)? < 4 {
-        return Ok(4294967296);
-    }
-    Ok(word(head[0], head[1], head[2], head[3]))
-}
-
-// Reads the next n bytes into the buffer and prints what the reader finds in them.
-fn next_message<R: Read, W: Write>(
-    input: &mut R,
-    out: &mut W,
-    buffer: &mut [u8],
-    n: usize,
-) -> io::Result<()> {
-    if n <= buffer.len() {
-        read_full(input, &mut buffer[..n])?;
-        show::found(out, &buffer[..n])?;
-    }
-    Ok(())
+    let size = read_full(input, &mut head)?;
+    Ok(if size < head.len() {
+        None
+    } else {
+        Some(u32::from_be_bytes(head) as usize)
+    })
 }
 
 // Reads messages of at most 65,536 bytes, at most a million, until there are no more. What is found in one is written out
@@ -248,11 +182,14 @@ fn next_message<R: Read, W: Write>(
 fn arriving<R: Read, W: Write>(input: &mut R, out: &mut W) -> io::Result<()> {
     let mut buffer = [0u8; 65536];
     for _ in 0..1000000 {
-        let n = next_length(input)?;
-        if 65536 < n {
-            return Ok(());
+        let Some(size) = next_length(input)? else {
+            break;
+        };
+        if buffer.len() < size {
+            break;
         }
-        next_message(input, out, &mut buffer, n as usize)?;
+        read_full(input, &mut buffer[..size])?;
+        show::found(out, &buffer[..size])?;
         out.flush()?;
     }
     Ok(())
@@ -261,6 +198,7 @@ fn arriving<R: Read, W: Write>(input: &mut R, out: &mut W) -> io::Result<()> {
 fn main(rt: HostRuntime) -> io::Result<()> {
     let mut out = BufWriter::new(rt.alloc(), io::writer(&rt))?;
     queries(&mut out)?;
+    short_queries(&mut out)?;
     literals(&mut out)?;
     compositions(&mut out)?;
     openings(&mut out)?;

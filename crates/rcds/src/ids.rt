@@ -3,6 +3,9 @@ ghost use Rattle.std.specs.Prelude.{◌++◌, ◌≡◌, ◌*◌, ◌^◌, ◌�
 ghost use Rattle.rows.specs.Rows.{words_of};
 ghost use Rattle.rcds.specs.Trails.{marked, column, bytes_of_ids};
 
+// What comes on top of an answer whose trail is the only one.
+const ONLY: u64 = 8589934592;
+
 // 32 rows of a table, from a place on and then every `step`; 0 past the table's end.
 pub fn read_column(table: &[u8], step: usize, place: usize) -> [u64; 32]
     requires step_bound { step ≤ 3 }
@@ -10,12 +13,8 @@ pub fn read_column(table: &[u8], step: usize, place: usize) -> [u64; 32]
     ensures { result ≡ column 32 step place (words_of table.now) }
 {
     let mut rows = [0u64; 32];
-    let mut at = place;
-    let mut i: usize = 0;
-    while i < 32 {
-        rows[i] = rows::load(table, at);
-        at += step;
-        i += 1;
+    for i in 0..32 {
+        rows[i] = rows::load(table, place + step * i);
     }
     rows
 }
@@ -26,11 +25,8 @@ pub fn write_ids(list: [u64; 32], k: usize, ids: &mut [u8])
     requires k_in_bounds { k * 8 ≤ length ids.old }
     ensures { ids.new ≡ bytes_of_ids (take k list) ++ drop (k * 8) ids.old }
 {
-    let mut i: usize = 0;
-    while i < k {
-        let id = list[i];
-        rows::store(ids, i, id);
-        i += 1;
+    for (i, id) in list[..k].iter().enumerate() {
+        rows::store(ids, i, *id);
     }
 }
 
@@ -40,7 +36,7 @@ pub fn mark(answer: u64, only: bool) -> u64
     ensures { result ≡ marked answer only }
 {
     if only {
-        return 8589934592 + answer;
+        return ONLY + answer;
     }
     answer
 }

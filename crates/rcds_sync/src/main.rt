@@ -8,16 +8,21 @@ use std::io;
 use std::io::{Read, Write};
 use tree::Settings;
 
-// Runs session 1 from one string to a receiver that holds another. The output has room for the string, and the sender's buffer for each of
-// its replies: the longest, a literal of 16,384 bytes, has fewer than 6,000 words.
-fn hand_over(string: &[u8], own: &[u8], output: &mut [u8]) -> u64 {
-    let settings = Settings {
-        window: 2,
-        fan_out: 2,
-        levels: 1,
-        nominal: 2,
-        width: 64,
-    };
+const SETTINGS: Settings = Settings {
+    window: 2,
+    fan_out: 2,
+    levels: 1,
+    nominal: 2,
+    width: 64,
+};
+
+// From here on a session's answer is a yes, and the length of the string comes on top.
+const YES: u64 = 4294967296;
+
+// Runs session 1 from one string to a receiver that holds another, and answers the string that the receiver hands over, unless it is
+// refused. The output has room for the string, and the sender's buffer for each of its replies: the longest, a literal of 16,384 bytes, has
+// fewer than 6,000 words.
+fn hand_over<'a>(string: &[u8], own: &[u8], output: &'a mut [u8]) -> Option<&'a [u8]> {
     let mut nodes = [0u8; 65536];
     let mut shingles = [0u8; 98304];
     let mut cells = [0u8; 7680];
@@ -25,8 +30,8 @@ fn hand_over(string: &[u8], own: &[u8], output: &mut [u8]) -> u64 {
     let mut own_shingles = [0u8; 98304];
     let mut own_cells = [0u8; 7680];
     let mut buffer = [0u8; 24000];
-    session::run(
-        settings,
+    let answer = session::run(
+        SETTINGS,
         1,
         string,
         &mut nodes,
@@ -38,7 +43,9 @@ fn hand_over(string: &[u8], own: &[u8], output: &mut [u8]) -> u64 {
         &mut own_cells,
         &mut buffer,
         output,
-    )
+    );
+    let size = answer.checked_sub(YES)? as usize;
+    output.get(..size)
 }
 
 // The first 16,384 bytes of a file. An error names the file.
@@ -49,18 +56,14 @@ fn read_file(rt: &HostRuntime, name: &str) -> Result<Vec<u8>> {
     Ok(bytes)
 }
 
-// Writes what is handed over. An answer below 2^32 is a refusal.
+// Writes what is handed over.
 fn synchronise<W: Write>(out: &mut W, string: &[u8], own: &[u8]) -> io::Result<()> {
     let mut output = [0u8; 16384];
-    let answer = hand_over(string, own, &mut output);
-    if answer < 4294967296 {
-        return Ok(());
+    if let Some(bytes) = hand_over(string, own, &mut output) {
+        out.write_all(bytes)?;
+        out.flush()?;
     }
-    let size = (answer - 4294967296) as usize;
-    if size <= 16384 {
-        out.write_all(&output[..size])?;
-    }
-    out.flush()
+    Ok(())
 }
 
 fn main(rt: HostRuntime) -> Result<()> {

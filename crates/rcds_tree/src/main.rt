@@ -6,20 +6,24 @@ use std::io;
 use std::io::{BufWriter, Read, Write};
 use tree::Settings;
 
-fn print_node<W: Write>(out: &mut W, nodes: &[u8], k: usize) -> io::Result<()> {
-    let level = node_table::node_level(nodes, k);
-    let start = node_table::node_start(nodes, k);
-    let length = node_table::node_length(nodes, k);
-    writeln!(out, "{level} {start} {length}")
-}
+const SETTINGS: Settings = Settings {
+    window: 2,
+    fan_out: 2,
+    levels: 1,
+    nominal: 2,
+    width: 64,
+};
 
 // Prints the nodes of a table, up to its first id 0.
 fn print_nodes<W: Write>(out: &mut W, nodes: &[u8]) -> io::Result<()> {
     for k in 0..4096 {
         if node_table::node_id(nodes, k) == 0 {
-            return Ok(());
+            break;
         }
-        print_node(out, nodes, k)?;
+        let level = node_table::node_level(nodes, k);
+        let start = node_table::node_start(nodes, k);
+        let length = node_table::node_length(nodes, k);
+        writeln!(out, "{level} {start} {length}")?;
     }
     Ok(())
 }
@@ -29,14 +33,7 @@ fn main(rt: HostRuntime) -> io::Result<()> {
     let mut string = Vec::new(alloc);
     rt.stdin().take(16384).read_to_end(&mut string)?;
     let mut nodes = [0u8; 65536];
-    let settings = Settings {
-        window: 2,
-        fan_out: 2,
-        levels: 1,
-        nominal: 2,
-        width: 64,
-    };
-    tree::cut_string(settings, string.as_slice(), &mut nodes);
+    tree::cut_string(SETTINGS, string.as_slice(), &mut nodes);
     let mut out = BufWriter::new(alloc, io::writer(&rt))?;
     writeln!(out, "level start length")?;
     print_nodes(&mut out, &nodes)?;

@@ -6,6 +6,9 @@ ghost use Rattle.receiver.specs.Calls.{ReceiverSetUp, Asked};
 use state::{Receiver, Taken};
 use tree::Settings;
 
+// An answer from here on is no refusal.
+const ACCEPTED: u64 = 4294967296;
+
 // Sets a receiver up: its three tables are filled from its own string. Asked are 1 to 8: the answer is the number of the first that
 // fails, or 2^32 and the number of nodes. The session number is taken modulo 2^24. By a no no state is made: what comes back is the
 // state of zeros, which every call refuses by 1.
@@ -21,7 +24,7 @@ pub fn setup(
         shingles.new cells.old cells.new result }
 {
     let answer = setup::fill_tables(settings, string, nodes, shingles, cells);
-    if answer < 4294967296 {
+    if answer < ACCEPTED {
         let none = Settings {
             window: 0,
             fan_out: 0,

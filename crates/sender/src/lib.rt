@@ -9,6 +9,12 @@ ghost use Rattle.sender.specs.State.{settings_in, SenderSetUp};
 
 use tree::Settings;
 
+// An answer from here on is no refusal.
+const ACCEPTED: u64 = 4294967296;
+
+// How many bytes a state has.
+const SIZE: usize = 40;
+
 // Sets a sender up: its three tables are filled from the string, and its settings are written to the front of the state. Asked are 1
 // to 8, and 7 of the state too: the answer is the number of the first that fails, or 2^32 and the number of nodes. A no leaves the
 // state as it is.
@@ -27,11 +33,11 @@ pub fn setup(
     if refused != 0 {
         return refused;
     }
-    if state.len() < 40 {
+    if state.len() < SIZE {
         return 7;
     }
     let answer = setup::fill_tables(settings, string, nodes, shingles, cells);
-    if answer < 4294967296 {
+    if answer < ACCEPTED {
         return answer;
     }
     state::write_settings(state, settings);

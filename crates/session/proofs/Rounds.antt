@@ -1,7 +1,7 @@
 -- What the rounds that are left come to is what all of them do.
 use mathlib.Core.List.{List}
 use mathlib.Core.Path.{◌≡◌, refl, sym, ap, ◌∙◌}
-use Prim.Native.Nat.{ℕ, zero, suc, ◌-◌, ◌≤◌, ◌<◌}
+use Prim.Native.Nat.{ℕ, zero, suc, ◌≤◌, ◌<◌}
 use native.Mathlib.Omega.{arith}
 use borrow.Author.Tests.{ne_eqb}
 use lib.ListN.{length}
@@ -65,18 +65,15 @@ module _ {σ : Settings} {theirs ours₀ : Lent} {buffer₀ : List ℕ} {s₀ : 
         let stop = rounds_stop budget σ theirs _ (λ e. last (exchanged.stands.answer ∙ e)) in
         record { ends = ends_by (sym stop ∙ (sym (one_round budget σ theirs _ _ _) ∙ going.is)) exchanged.stands }
 
-    pub next_round : {budget : ℕ} → Going σ theirs ours₀ buffer₀ s₀ ours buffer s budget → 0 < budget → r.answer ≡ 0
+    pub next_round : {budget : ℕ} (left : ℕ) → Going σ theirs ours₀ buffer₀ s₀ ours buffer s budget → budget ≡ suc left → r.answer ≡ 0
         → length ours'.shingles ≡ length ours.shingles → length buffer' ≡ length buffer → length ours'.output ≡ length ours.output
-        → Going σ theirs ours₀ buffer₀ s₀ ours' buffer' r.state (budget - 1)
-    next_round {budget = zero} going some goes a b c = absurd (omega (arith, some))
-    next_round {budget = suc budget} going some goes a b c =
+        → Going σ theirs ours₀ buffer₀ s₀ ours' buffer' r.state left
+    next_round left going more goes a b c =
         let stands = exchanged.stands in
         let now = standing_is (sym goes ∙ stands.answer) stands.state stands.memory stands.buffer_is in
-        let less : suc budget - 1 ≡ budget = omega arith in
-        rw less
-        (record {
+        record {
           shingles_long = a ∙ going.shingles_long;
           buffer_long = b ∙ going.buffer_long;
           output_long = c ∙ going.output_long;
-          is = ap (rounds budget σ theirs) (sym now) ∙ (sym (one_round budget σ theirs _ _ _) ∙ going.is);
-        })
+          is = ap (rounds left σ theirs) (sym now) ∙ (sym (one_round left σ theirs _ _ _) ∙ (rw more at going.is));
+        }

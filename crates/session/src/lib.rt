@@ -9,6 +9,9 @@ ghost use Rattle.session.specs.Calls.{Ran};
 
 use tree::Settings;
 
+// An answer from here on is no refusal.
+const ACCEPTED: u64 = 4294967296;
+
 // Sets a sender and a receiver up and lets them exchange messages through the buffer until the receiver hands the sender's string over, its
 // bytes at the front of the output: the answer is then 2^32 and its length. Else it is the number of the first question that refuses: of
 // the sender's setup, the receiver's, or a round; or 0, if 4,097 rounds do not suffice.
@@ -33,12 +36,12 @@ pub fn run(
         buffer.old buffer.new result }
 {
     let answer = setup::fill_tables(settings, string, nodes, shingles, cells);
-    if answer < 4294967296 {
+    if answer < ACCEPTED {
         return answer;
     }
     let made = receiver::setup(settings, session, own, own_nodes, own_shingles, own_cells);
     let refused = made.answer;
-    if refused < 4294967296 {
+    if refused < ACCEPTED {
         return refused;
     }
     round::exchange_all(

@@ -3,8 +3,12 @@ ghost use Rattle.std.specs.Prelude.{[]};
 ghost use Rattle.protocol.specs.Lent.{lent};
 ghost use Rattle.session.specs.Calls.{Exchanged, ExchangedAll};
 
+use crate::ACCEPTED;
 use state::{Receiver, Taken};
 use tree::Settings;
+
+// The opening's round, and one for each node reply that question 15 allows.
+const ROUNDS: u64 = 4097;
 
 // One round. What refuses first, the query, the reply or the taking, gives the answer; a query or a reply that is refused leaves the
 // state as it was.
@@ -29,13 +33,13 @@ pub fn exchange(
 {
     let mut query = [0u8; 24];
     let asked = receiver::query(state, own, own_nodes, own_shingles, own_cells, &mut query);
-    if asked < 4294967296 {
+    if asked < ACCEPTED {
         return Taken {
             answer: asked,
             state,
         };
     }
-    let size = (asked - 4294967296) as usize;
+    let size = (asked - ACCEPTED) as usize;
     let replied = reply::reply(
         settings,
         string,
@@ -45,13 +49,13 @@ pub fn exchange(
         &query[..size],
         buffer,
     );
-    if replied < 4294967296 {
+    if replied < ACCEPTED {
         return Taken {
             answer: replied,
             state,
         };
     }
-    let count = (replied - 4294967296) as usize;
+    let count = (replied - ACCEPTED) as usize;
     taking::take(
         state,
         own,
@@ -84,8 +88,7 @@ pub fn exchange_all(
         buffer.old buffer.new result }
 {
     let mut state = start;
-    let mut budget = 4097u64;
-    while 0 < budget {
+    for _round in 0..ROUNDS {
         let taken = exchange(
             settings,
             state,
@@ -105,7 +108,6 @@ pub fn exchange_all(
             return answer;
         }
         state = taken.state;
-        budget -= 1;
     }
     0
 }

@@ -1,12 +1,9 @@
--- Question 9: going down the pile, and each way out.
-use mathlib.Core.Bool.{Bool, true, false, ◌&&◌}
-use mathlib.Core.List.{List}
-use mathlib.Core.Path.{◌≡◌, refl, sym, ap, ◌∙◌}
-use Prim.Native.Nat.{ℕ, zero, suc, ◌-◌, ◌≤◌, ◌<◌}
-use native.Mathlib.Omega.{arith}
+-- Question 9: the levels of the pending nodes, and each way out.
+use Rattle.std.proofs.Common.{Bool, true, false, ◌&&◌, List, [], ◌∷◌, ◌≡◌, refl, sym, ap, ◌∙◌, ℕ, zero, suc, ◌-◌, ◌≤◌, ◌<◌, arith, leb, eqb, length, get_or, take}
+use Rattle.std.proofs.Math.Seq.{take-suc}
+use Rattle.std.proofs.lemmas.List.Folds.{list_all-append}
+use Rattle.std.specs.List.{list_all}
 use borrow.Author.Tests.{le-leb, lt-leb}
-use lib.Dec.{leb, eqb}
-use lib.ListN.{length, get_or}
 use Rattle.copying.specs.declared.Waiting.{Waiting}
 use Rattle.copying.specs.Copying.{pile_of}
 use Rattle.protocol.specs.State.{live, shallow}
@@ -18,29 +15,25 @@ unfolding pile_of
 length_pile zero places = refl
 length_pile (suc n) places = ap suc (length_pile n places)
 
-module _ (levels waiting : ℕ) (places : List Waiting) where
-  -- None above the first `left` places is of a level above L.
-  pub record Descending (left : ℕ) : Type 0 where
-    pub few : left ≤ 128
-    pub same : shallow levels (pile_of waiting places) ≡ shallow levels (pile_of left places)
+last_first : (a b : Bool) → a && (b && true) ≡ b && a
+last_first true true = refl
+last_first true false = refl
+last_first false true = refl
+last_first false false = refl
 
-  pub descending_end : (left : ℕ) → Descending left → left ≤ 0 → true ≡ shallow levels (pile_of waiting places)
-  unfolding shallow pile_of
-  descending_end left d h = let none : left ≡ 0 = omega arith in sym (d.same ∙ ap (λ (k : ℕ). shallow levels (pile_of k places)) none)
-
-  module _ (left : ℕ) (d : Descending left) (some : 0 < left) (top : Waiting) (is : top ≡ get_or places (left - 1) (record { level = 0; id = 0 })) where
-    one : shallow levels (pile_of left places) ≡ leb top.level levels && shallow levels (pile_of (left - 1) places)
-    unfolding shallow pile_of
-    one =
-        let next : left ≡ suc (left - 1) = omega arith in
-        ap (λ (k : ℕ). shallow levels (pile_of k places)) next
-        ∙ ap (λ (w : Waiting). leb w.level levels && shallow levels (pile_of (left - 1) places)) (sym is)
-
-    pub too_deep : levels < top.level → false ≡ shallow levels (pile_of waiting places)
-    too_deep h = sym (d.same ∙ (one ∙ rw (lt-leb top.level levels h)))
-
-    pub descending_next : top.level ≤ levels → Descending (left - 1)
-    descending_next h = let few = d.few in record { few = omega arith; same = d.same ∙ (one ∙ rw (le-leb top.level levels h)) }
+-- Asked of each place from the bottom up.
+pub shallow_each : (levels n : ℕ) (places : List Waiting) → n ≤ length places
+    → list_all (λ (w : Waiting). leb w.level levels) (take n places) ≡ shallow levels (pile_of n places)
+unfolding shallow pile_of
+shallow_each levels zero places h = refl
+shallow_each levels (suc n) places h =
+    let none : Waiting = record { level = 0; id = 0 } in
+    let test = λ (w : Waiting). leb w.level levels in
+    let top = get_or places n none in
+    ap (list_all test) (take-suc places n none (omega arith))
+    ∙ (list_all-append test (take n places) (top ∷ [])
+    ∙ (ap (λ (b : Bool). b && (leb top.level levels && true)) (shallow_each levels n places (omega arith))
+    ∙ last_first (shallow levels (pile_of n places)) (leb top.level levels)))
 
 second_false : (a b : Bool) → b ≡ false → a && b ≡ false
 second_false true b e = e

@@ -41,17 +41,16 @@ placed_pile places at level (id ∷ ids) h =
     (pile_above top top under w (omega arith) ∙ placed_pile places at level ids (omega arith)))
 
 module _ (places₀ : List Waiting) (waiting level count : ℕ) (ids : List ℕ) where
-  -- The ids from `left` on are placed.
-  pub record Placing (places : List Waiting) (at left : ℕ) : Type 0 where
+  -- The last k ids are placed.
+  pub record Placing (places : List Waiting) (k : ℕ) : Type 0 where
     pub few : count ≤ 32
     pub fits : waiting + count ≤ 128
     pub ids_long : length ids ≡ 32
     pub long : length places ≡ 128
-    pub far : left ≤ count
-    pub next : at + left ≡ waiting + count
-    pub same : places ≡ placed places₀ waiting level (drop left (take count ids))
+    pub far : k ≤ count
+    pub same : places ≡ placed places₀ waiting level (drop (count - k) (take count ids))
 
-  pub placing_start : count ≤ 32 → waiting + count ≤ 128 → length ids ≡ 32 → length places₀ ≡ 128 → Placing places₀ waiting count
+  pub placing_start : count ≤ 32 → waiting + count ≤ 128 → length ids ≡ 32 → length places₀ ≡ 128 → Placing places₀ 0
   unfolding placed
   placing_start few fits ids_long long =
       let size = length-take-le count ids (omega arith) in
@@ -61,43 +60,41 @@ module _ (places₀ : List Waiting) (waiting level count : ℕ) (ids : List ℕ)
         ids_long = ids_long;
         long = long;
         far = omega arith;
-        next = refl;
-        same = sym (ap (placed places₀ waiting level) (drop_of_length-le (take count ids) {i = count} (omega arith)));
+        same = sym (ap (placed places₀ waiting level) (drop_of_length-le (take count ids) {i = count - 0} (omega arith)));
       }
 
-  module _ (places : List Waiting) (at left : ℕ) (p : Placing places at left) where
-    pub placing_next : 0 < left → Placing (set places at (record { level = level; id = get_or ids (left - 1) 0 })) (at + 1) (left - 1)
+  module _ (places : List Waiting) (k : ℕ) (p : Placing places k) where
+    pub placing_next : k < count → Placing (set places (waiting + k) (record { level = level; id = get_or ids (count - 1 - k) 0 })) (k + 1)
     unfolding placed
     placing_next some =
         let few = p.few in
-        let far = p.far in
         let ids_long = p.ids_long in
-        let next = p.next in
         let size = length-take-le count ids (omega arith) in
-        let step : suc (left - 1) ≡ left = omega arith in
-        let w : Waiting = record { level = level; id = get_or ids (left - 1) 0 } in
-        let rest = drop left (take count ids) in
-        let behind = length-drop left (take count ids) in
-        let here : at ≡ waiting + length rest = omega arith in
-        let split : drop (left - 1) (take count ids) ≡ get_or ids (left - 1) 0 ∷ rest =
-        drop-cons (take count ids) (left - 1) 0 (omega arith)
-        ∙ (ap (λ (x : ℕ). x ∷ drop (suc (left - 1)) (take count ids)) (get_or-take count ids (left - 1) 0 (omega arith))
-        ∙ ap (λ (k : ℕ). get_or ids (left - 1) 0 ∷ drop k (take count ids)) step) in
+        let step : suc (count - 1 - k) ≡ count - k = omega arith in
+        let next : count - (k + 1) ≡ count - 1 - k = omega arith in
+        let w : Waiting = record { level = level; id = get_or ids (count - 1 - k) 0 } in
+        let rest = drop (count - k) (take count ids) in
+        let behind = length-drop (count - k) (take count ids) in
+        let here : waiting + k ≡ waiting + length rest = omega arith in
+        let split : drop (count - (k + 1)) (take count ids) ≡ get_or ids (count - 1 - k) 0 ∷ rest =
+        ap (λ (m : ℕ). drop m (take count ids)) next
+        ∙ (drop-cons (take count ids) (count - 1 - k) 0 (omega arith)
+        ∙ (ap (λ (x : ℕ). x ∷ drop (suc (count - 1 - k)) (take count ids)) (get_or-take count ids (count - 1 - k) 0 (omega arith))
+        ∙ ap (λ (m : ℕ). get_or ids (count - 1 - k) 0 ∷ drop m (take count ids)) step)) in
         record {
           few = p.few;
           fits = p.fits;
           ids_long = p.ids_long;
-          long = length-set places at w ∙ p.long;
+          long = length-set places (waiting + k) w ∙ p.long;
           far = omega arith;
-          next = omega arith;
-          same = ap (λ (l : List Waiting). set l at w) p.same
-              ∙ (ap (λ (k : ℕ). set (placed places₀ waiting level rest) k w) here ∙ sym (ap (placed places₀ waiting level) split));
+          same = ap (λ (l : List Waiting). set l (waiting + k) w) p.same
+              ∙ (ap (λ (m : ℕ). set (placed places₀ waiting level rest) m w) here ∙ sym (ap (placed places₀ waiting level) split));
         }
 
-    pub placing_end : left ≤ 0 → places ≡ placed places₀ waiting level (take count ids)
+    pub placing_end : count ≤ k → places ≡ placed places₀ waiting level (take count ids)
     placing_end h =
-        let none : left ≡ 0 = omega arith in
-        p.same ∙ ap (λ (k : ℕ). placed places₀ waiting level (drop k (take count ids))) none
+        let none : count - k ≡ 0 = omega arith in
+        p.same ∙ ap (λ (m : ℕ). placed places₀ waiting level (drop m (take count ids))) none
 
 module _ (places : List Waiting) (waiting level : ℕ) (ids : List ℕ) (count : ℕ) where
   pub pushed_none : 32 < count → Pushes places waiting level ids count places

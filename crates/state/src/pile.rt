@@ -18,13 +18,9 @@ pub fn place(
     ensures { result ≡ placed pile waiting level (take count ids) }
 {
     let mut places = pile;
-    let mut at = waiting;
-    let mut left = count;
-    while 0 < left {
-        left -= 1;
-        let id = ids[left];
-        places[at] = Waiting { level, id };
-        at += 1;
+    for k in 0..count {
+        let id = ids[count - 1 - k];
+        places[waiting + k] = Waiting { level, id };
     }
     places
 }
@@ -34,10 +30,8 @@ pub fn clear_above(pile: [Waiting; 128], waiting: usize) -> [Waiting; 128]
     ensures { result ≡ places_of (pile_of waiting pile) }
 {
     let mut cleared = pile;
-    let mut above = waiting;
-    while above < 128 {
+    for above in waiting..128 {
         cleared[above] = Waiting { level: 0, id: 0 };
-        above += 1;
     }
     cleared
 }

@@ -6,20 +6,12 @@ ghost use Rattle.state.specs.Receivers.{runs};
 
 use copying::Waiting;
 
-// Whether none of the pending nodes is of a level above L, from the top down.
+// Whether none of the pending nodes is of a level above L.
 fn all_shallow(levels: u64, waiting: usize, pile: [Waiting; 128]) -> bool
     requires { waiting ≤ 128 }
     ensures { result ≡ shallow levels (pile_of waiting pile) }
 {
-    let mut left = waiting;
-    while 0 < left {
-        left -= 1;
-        let top = pile[left];
-        if levels < top.level {
-            return false;
-        }
-    }
-    true
+    pile[..waiting].iter().all(|place| place.level <= levels)
 }
 
 // Not ended, after the opening not without pending nodes, at most 128 of them, and none of a level above L.

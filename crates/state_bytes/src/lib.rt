@@ -10,6 +10,9 @@ use copying::Waiting;
 use state::Receiver;
 use tree::Settings;
 
+// How many bytes a state has.
+const SIZE: usize = 2144;
+
 // The settings, from the first five rows.
 fn load_settings(bytes: &[u8]) -> Settings
     ensures { result ≡ settings_from (words_of bytes.now) }
@@ -33,12 +36,10 @@ fn load_places(bytes: &[u8]) -> [Waiting; 128]
     ensures { result ≡ places_from (words_of bytes.now) 128 0 }
 {
     let mut pile = [Waiting { level: 0, id: 0 }; 128];
-    let mut k = 0;
-    while k < 128 {
+    for k in 0..128 {
         let level = rows::load(bytes, 12 + k * 2);
         let id = rows::load(bytes, 13 + k * 2);
         pile[k] = Waiting { level, id };
-        k += 1;
     }
     pile
 }
@@ -47,7 +48,7 @@ fn load_places(bytes: &[u8]) -> [Waiting; 128]
 pub fn load(bytes: &[u8]) -> Receiver
     ensures { result ≡ state_in bytes.now }
 {
-    if bytes.len() < 2144 {
+    if bytes.len() < SIZE {
         let settings = Settings {
             window: 0,
             fan_out: 0,
@@ -84,11 +85,8 @@ fn store_head(bytes: &mut [u8], head: [u64; 12])
     requires { 96 ≤ length bytes.old }
     ensures { Rowed bytes.old bytes.new head }
 {
-    let mut k = 0;
-    while k < 12 {
-        let number = head[k];
-        rows::store(bytes, k, number);
-        k += 1;
+    for (k, number) in head.iter().enumerate() {
+        rows::store(bytes, k, *number);
     }
 }
 
@@ -97,12 +95,9 @@ fn store_places(part: &mut [u8], pile: [Waiting; 128])
     requires { 2048 ≤ length part.old }
     ensures { Rowed part.old part.new (place_rows pile) }
 {
-    let mut k = 0;
-    while k < 128 {
-        let place = pile[k];
+    for (k, place) in pile.iter().enumerate() {
         rows::store(part, k * 2, place.level);
         rows::store(part, k * 2 + 1, place.id);
-        k += 1;
     }
 }
 
@@ -110,7 +105,7 @@ fn store_places(part: &mut [u8], pile: [Waiting; 128])
 pub fn store(bytes: &mut [u8], state: Receiver)
     ensures { Stores bytes.old bytes.new state }
 {
-    if bytes.len() < 2144 {
+    if bytes.len() < SIZE {
         return;
     }
     let settings = state.settings;

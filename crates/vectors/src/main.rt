@@ -6,293 +6,181 @@ mod estimates;
 mod most;
 mod openings;
 mod ranges;
+mod settings;
 mod strings;
+mod tables;
 
+use settings::{Settings, Shape};
 use std::io;
 use std::io::{BufWriter, Write};
+use strings::Kind;
+use tables::Tables;
 
-pub fn print_number<W: Write>(out: &mut W, n: u64) -> io::Result<()> {
-    write!(out, "{n} ")
-}
+// From here on an answer is a yes.
+pub const YES: u64 = 4294967296;
 
-pub fn print_last<W: Write>(out: &mut W, n: u64) -> io::Result<()> {
-    writeln!(out, "{n}")
-}
+// The strings whose FNV-1a is published.
+const PUBLISHED: [&str; 12] = [
+    "", "a", "b", "c", "d", "e", "f", "fo", "foo", "foob", "fooba", "foobar",
+];
+
+// Eight bytes whose FNV-1a is 0, so that their block id is 1.
+const HASHES_TO_ZERO: [u8; 8] = [213, 107, 185, 83, 66, 135, 8, 54];
 
 // A line with the length of the bytes and their FNV-1a.
 fn hash_line<W: Write>(out: &mut W, bytes: &[u8]) -> io::Result<()> {
-    out.write_all(b"fnv ")?;
-    print_number(out, bytes.len() as u64)?;
-    print_last(out, fnv::hash(bytes))
+    writeln!(out, "fnv {} {}", bytes.len(), fnv::hash(bytes))
 }
 
-fn published_lines<W: Write>(out: &mut W) -> io::Result<()> {
-    hash_line(out, b"")?;
-    hash_line(out, b"a")?;
-    hash_line(out, b"b")?;
-    hash_line(out, b"c")?;
-    hash_line(out, b"d")?;
-    hash_line(out, b"e")?;
-    hash_line(out, b"f")?;
-    hash_line(out, b"fo")?;
-    hash_line(out, b"foo")?;
-    hash_line(out, b"foob")?;
-    hash_line(out, b"fooba")?;
-    hash_line(out, b"foobar")
-}
-
-fn single_byte_lines<W: Write>(out: &mut W) -> io::Result<()> {
-    for b in 0..256u64 {
-        let one = [(b % 256) as u8];
-        hash_line(out, &one)?;
+fn hash_lines<W: Write>(out: &mut W) -> io::Result<()> {
+    for text in PUBLISHED {
+        hash_line(out, text.as_bytes())?;
     }
-    Ok(())
+    for byte in 0..=255 {
+        hash_line(out, &[byte])?;
+    }
+    hash_line(out, &HASHES_TO_ZERO)?;
+    writeln!(out, "id {}", fnv::block_id(&HASHES_TO_ZERO))
 }
 
-// Eight bytes whose FNV-1a is 0, so that their block id is 1.
-fn zero_hash_lines<W: Write>(out: &mut W) -> io::Result<()> {
-    let bytes = [213u8, 107, 185, 83, 66, 135, 8, 54];
-    hash_line(out, &bytes)?;
-    out.write_all(b"id ")?;
-    print_last(out, fnv::block_id(&bytes))
-}
-
-// Fills the string and cuts it. A line with the settings, the string's kind and length, the call's answer, and FNV-1a of
-// the whole table after it.
-fn string_line<W: Write>(
-    out: &mut W,
-    w: u64,
-    p: u64,
-    levels: u64,
-    nominal: u64,
-    kind: u64,
-    string: &mut [u8],
-) -> io::Result<()> {
-    strings::fill(kind, string);
+// Cuts a string of so many bytes, at most 65,537. A line with the settings, the string's kind and length, the call's answer, and FNV-1a
+// of the whole table after it.
+fn tree_line<W: Write>(out: &mut W, shape: Shape, kind: Kind, length: usize) -> io::Result<()> {
+    let mut buffer = [0u8; 65537];
+    let string = kind.string(&mut buffer, length);
     let mut nodes = [170u8; 65536];
-    let answer = rcds::rcds_tree(w, p, levels, nominal, string, &mut nodes);
-    print_number(out, w)?;
-    print_number(out, p)?;
-    print_number(out, levels)?;
-    print_number(out, nominal)?;
-    print_number(out, kind)?;
-    print_number(out, string.len() as u64)?;
-    print_number(out, answer)?;
-    print_last(out, fnv::hash(&nodes))
-}
-
-// The line of a string of n bytes, at most 65,537.
-fn tree_line<W: Write>(
-    out: &mut W,
-    w: u64,
-    p: u64,
-    levels: u64,
-    nominal: u64,
-    kind: u64,
-    n: usize,
-) -> io::Result<()> {
-    let mut string = [0u8; 65537];
-    if n <= 65537 {
-        string_line(out, w, p, levels, nominal, kind, &mut string[..n])?;
-    }
-    Ok(())
-}
-
-fn kind_lines<W: Write>(
-    out: &mut W,
-    w: u64,
-    p: u64,
-    levels: u64,
-    nominal: u64,
-    kind: u64,
-) -> io::Result<()> {
-    tree_line(out, w, p, levels, nominal, kind, 0)?;
-    tree_line(out, w, p, levels, nominal, kind, 1)?;
-    tree_line(out, w, p, levels, nominal, kind, 5)?;
-    tree_line(out, w, p, levels, nominal, kind, 17)?;
-    tree_line(out, w, p, levels, nominal, kind, 100)?;
-    tree_line(out, w, p, levels, nominal, kind, 1000)?;
-    tree_line(out, w, p, levels, nominal, kind, 4527)?;
-    tree_line(out, w, p, levels, nominal, kind, 20000)
-}
-
-fn settings_lines<W: Write>(
-    out: &mut W,
-    w: u64,
-    p: u64,
-    levels: u64,
-    nominal: u64,
-) -> io::Result<()> {
-    for kind in 0..6u64 {
-        kind_lines(out, w, p, levels, nominal, kind)?;
-    }
-    tree_line(out, w, p, levels, nominal, 0, 65536)?;
-    tree_line(out, w, p, levels, nominal, 2, 65536)
+    let answer = shape.cut(string, &mut nodes);
+    let size = string.len();
+    writeln!(out, "{shape} {kind} {size} {answer} {}", fnv::hash(&nodes))
 }
 
 fn tree_lines<W: Write>(out: &mut W) -> io::Result<()> {
-    settings_lines(out, 2, 2, 1, 2)?;
-    settings_lines(out, 2, 2, 4, 16)?;
-    settings_lines(out, 3, 4, 2, 64)?;
-    settings_lines(out, 12, 8, 1, 8)?;
-    settings_lines(out, 4, 2, 3, 65536)?;
-    settings_lines(out, 5, 3, 4, 1000)?;
-    settings_lines(out, 2, 8, 4, 4096)?;
-    settings_lines(out, 7, 5, 2, 300)
+    for shape in [
+        Shape::new(2, 2, 1, 2),
+        Shape::new(2, 2, 4, 16),
+        Shape::new(3, 4, 2, 64),
+        Shape::new(12, 8, 1, 8),
+        Shape::new(4, 2, 3, 65536),
+        Shape::new(5, 3, 4, 1000),
+        Shape::new(2, 8, 4, 4096),
+        Shape::new(7, 5, 2, 300),
+    ] {
+        for kind in [
+            Kind::Zeros,
+            Kind::Sevens,
+            Kind::Random,
+            Kind::FourValues,
+            Kind::Samples,
+            Kind::Repeated,
+        ] {
+            for length in [0, 1, 5, 17, 100, 1000, 4527, 20000] {
+                tree_line(out, shape, kind, length)?;
+            }
+        }
+        tree_line(out, shape, Kind::Zeros, 65536)?;
+        tree_line(out, shape, Kind::Random, 65536)?;
+    }
+    Ok(())
 }
 
 fn refused_lines<W: Write>(out: &mut W) -> io::Result<()> {
-    tree_line(out, 1, 2, 1, 2, 2, 100)?;
-    tree_line(out, 13, 2, 1, 2, 2, 100)?;
-    tree_line(out, 2, 1, 1, 2, 2, 100)?;
-    tree_line(out, 2, 9, 1, 9, 2, 100)?;
-    tree_line(out, 2, 2, 0, 2, 2, 100)?;
-    tree_line(out, 2, 2, 5, 32, 2, 100)?;
-    tree_line(out, 2, 2, 1, 1, 2, 100)?;
-    tree_line(out, 2, 2, 4, 15, 2, 100)?;
-    tree_line(out, 2, 2, 1, 65537, 2, 100)?;
-    tree_line(out, 2, 2, 1, 2, 0, 65537)
+    for shape in [
+        Shape::new(1, 2, 1, 2),
+        Shape::new(13, 2, 1, 2),
+        Shape::new(2, 1, 1, 2),
+        Shape::new(2, 9, 1, 9),
+        Shape::new(2, 2, 0, 2),
+        Shape::new(2, 2, 5, 32),
+        Shape::new(2, 2, 1, 1),
+        Shape::new(2, 2, 4, 15),
+        Shape::new(2, 2, 1, 65537),
+    ] {
+        tree_line(out, shape, Kind::Random, 100)?;
+    }
+    tree_line(out, Shape::new(2, 2, 1, 2), Kind::Zeros, 65537)
 }
 
 // Rulers: the most nodes that a tree may have, and more.
 fn ruler_lines<W: Write>(out: &mut W) -> io::Result<()> {
-    tree_line(out, 2, 8, 4, 4096, 6, 6670)?;
-    tree_line(out, 2, 8, 4, 4096, 6, 6671)?;
-    tree_line(out, 2, 8, 4, 4096, 6, 9000)
+    for length in [6670, 6671, 9000] {
+        tree_line(out, Shape::new(2, 8, 4, 4096), Kind::Ruler, length)?;
+    }
+    Ok(())
 }
 
 // Sets a sender up for the string. A line with the settings, the string's kind and length, the call's answer, and FNV-1a of each
 // table and of the state after it.
 fn filled_setup_line<W: Write>(
     out: &mut W,
-    w: u64,
-    p: u64,
-    levels: u64,
-    nominal: u64,
-    width: u64,
-    kind: u64,
+    settings: Settings,
+    kind: Kind,
     string: &[u8],
 ) -> io::Result<()> {
-    let mut nodes = [170u8; 65536];
-    let mut shingles = [170u8; 98304];
-    let mut cells = [170u8; 7680];
-    let mut state = [170u8; 48];
-    let answer = rcds::rcds_sender_setup(
-        w,
-        p,
-        levels,
-        nominal,
-        width,
-        string,
-        &mut nodes,
-        &mut shingles,
-        &mut cells,
-        &mut state,
-    );
-    out.write_all(b"setup ")?;
-    print_number(out, w)?;
-    print_number(out, p)?;
-    print_number(out, levels)?;
-    print_number(out, nominal)?;
-    print_number(out, width)?;
-    print_number(out, kind)?;
-    print_number(out, string.len() as u64)?;
-    print_number(out, answer)?;
-    print_number(out, fnv::hash(&nodes))?;
-    print_number(out, fnv::hash(&shingles))?;
-    print_number(out, fnv::hash(&cells))?;
-    print_last(out, fnv::hash(&state))
+    let mut tables = Tables::filled(170);
+    let answer = tables.set_up(settings, string);
+    writeln!(
+        out,
+        "setup {settings} {kind} {} {answer} {} {} {} {}",
+        string.len(),
+        fnv::hash(&tables.nodes),
+        fnv::hash(&tables.shingles),
+        fnv::hash(&tables.cells),
+        fnv::hash(&tables.state)
+    )
 }
 
-// Fills the string and sets a sender up for it.
-fn string_setup_line<W: Write>(
-    out: &mut W,
-    w: u64,
-    p: u64,
-    levels: u64,
-    nominal: u64,
-    width: u64,
-    kind: u64,
-    string: &mut [u8],
-) -> io::Result<()> {
-    strings::fill(kind, string);
-    filled_setup_line(out, w, p, levels, nominal, width, kind, string)
-}
-
-// The line of a setup for a string of n bytes, at most 65,537.
+// The line of a setup for a string of so many bytes, at most 65,537.
 fn setup_line<W: Write>(
     out: &mut W,
-    w: u64,
-    p: u64,
-    levels: u64,
-    nominal: u64,
-    width: u64,
-    kind: u64,
-    n: usize,
+    settings: Settings,
+    kind: Kind,
+    length: usize,
 ) -> io::Result<()> {
-    let mut string = [0u8; 65537];
-    if n <= 65537 {
-        string_setup_line(out, w, p, levels, nominal, width, kind, &mut string[..n])?;
+    let mut buffer = [0u8; 65537];
+    filled_setup_line(out, settings, kind, kind.string(&mut buffer, length))
+}
+
+fn setup_lines<W: Write>(out: &mut W) -> io::Result<()> {
+    for settings in [
+        Shape::new(2, 2, 1, 2).wide(64),
+        Shape::new(2, 2, 4, 16).wide(1),
+        Shape::new(4, 4, 3, 4096).wide(17),
+        Shape::new(12, 8, 4, 16384).wide(33),
+        Shape::new(2, 8, 4, 4096).wide(63),
+    ] {
+        for length in [0, 6, 100, 4527, 20000] {
+            for kind in [Kind::Zeros, Kind::Random, Kind::Samples, Kind::Repeated] {
+                setup_line(out, settings, kind, length)?;
+            }
+        }
     }
     Ok(())
 }
 
-fn setup_kind_lines<W: Write>(
-    out: &mut W,
-    w: u64,
-    p: u64,
-    levels: u64,
-    nominal: u64,
-    width: u64,
-    n: usize,
-) -> io::Result<()> {
-    setup_line(out, w, p, levels, nominal, width, 0, n)?;
-    setup_line(out, w, p, levels, nominal, width, 2, n)?;
-    setup_line(out, w, p, levels, nominal, width, 4, n)?;
-    setup_line(out, w, p, levels, nominal, width, 5, n)
-}
-
-fn setup_settings_lines<W: Write>(
-    out: &mut W,
-    w: u64,
-    p: u64,
-    levels: u64,
-    nominal: u64,
-    width: u64,
-) -> io::Result<()> {
-    setup_kind_lines(out, w, p, levels, nominal, width, 0)?;
-    setup_kind_lines(out, w, p, levels, nominal, width, 6)?;
-    setup_kind_lines(out, w, p, levels, nominal, width, 100)?;
-    setup_kind_lines(out, w, p, levels, nominal, width, 4527)?;
-    setup_kind_lines(out, w, p, levels, nominal, width, 20000)
-}
-
-fn setup_lines<W: Write>(out: &mut W) -> io::Result<()> {
-    setup_settings_lines(out, 2, 2, 1, 2, 64)?;
-    setup_settings_lines(out, 2, 2, 4, 16, 1)?;
-    setup_settings_lines(out, 4, 4, 3, 4096, 17)?;
-    setup_settings_lines(out, 12, 8, 4, 16384, 33)?;
-    setup_settings_lines(out, 2, 8, 4, 4096, 63)
-}
-
 fn refused_setup_lines<W: Write>(out: &mut W) -> io::Result<()> {
-    setup_line(out, 2, 2, 1, 2, 0, 2, 100)?;
-    setup_line(out, 2, 2, 1, 2, 65, 2, 100)?;
-    setup_line(out, 2, 2, 1, 1, 65, 2, 100)?;
-    setup_line(out, 2, 2, 1, 2, 64, 0, 65537)?;
-    setup_line(out, 2, 2, 1, 2, 65, 0, 65537)
+    for settings in [
+        Shape::new(2, 2, 1, 2).wide(0),
+        Shape::new(2, 2, 1, 2).wide(65),
+        Shape::new(2, 2, 1, 1).wide(65),
+    ] {
+        setup_line(out, settings, Kind::Random, 100)?;
+    }
+    for width in [64, 65] {
+        setup_line(out, Shape::new(2, 2, 1, 2).wide(width), Kind::Zeros, 65537)?;
+    }
+    Ok(())
 }
 
 fn ruler_setup_lines<W: Write>(out: &mut W) -> io::Result<()> {
-    setup_line(out, 2, 8, 4, 4096, 63, 6, 6670)?;
-    setup_line(out, 2, 8, 4, 4096, 63, 6, 9000)
+    for length in [6670, 9000] {
+        setup_line(out, Shape::new(2, 8, 4, 4096).wide(63), Kind::Ruler, length)?;
+    }
+    Ok(())
 }
 
 fn main(rt: HostRuntime) -> io::Result<()> {
     let mut out = BufWriter::new(rt.alloc(), io::writer(&rt))?;
-    published_lines(&mut out)?;
-    single_byte_lines(&mut out)?;
-    zero_hash_lines(&mut out)?;
+    hash_lines(&mut out)?;
     tree_lines(&mut out)?;
     refused_lines(&mut out)?;
     ruler_lines(&mut out)?;

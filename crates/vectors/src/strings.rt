@@ -1,75 +1,95 @@
-// The strings that the vectors are cut from: seven kinds, made from the kind and the length alone.
+// The strings that the vectors are cut from, made from their kind and length alone.
+use std::fmt;
 
-// The next number of the generator x * 6364136223846793005 + 1442695040888963407 modulo 2^64, by halves: the factor is
-// 1481765933 * 2^32 + 1284865837.
-fn random_step(x: u64) -> u64 {
-    let high = x / 4294967296;
-    let low = x % 4294967296;
-    let product = low * 1284865837;
-    let middle = high * 1284865837 % 4294967296
-        + low * 1481765933 % 4294967296
-        + product / 4294967296;
-    (middle % 4294967296 * 4294967296 + product % 4294967296).wrapping_add(1442695040888963407)
+// The kinds of string, by the number that a line gives.
+#[derive(Clone, Copy, PartialEq, Eq)]
+pub enum Kind {
+    Zeros,
+    Sevens,
+    Random,
+    // Random bytes of four values.
+    FourValues,
+    Samples,
+    // A random block of 37 bytes over and over.
+    Repeated,
+    Ruler,
 }
+
+const BLOCK: usize = 37;
+
+const FACTOR: u64 = 6364136223846793005;
+
+const INCREMENT: u64 = 1442695040888963407;
 
 // Byte i of 12-bit samples in 16 bits, high byte first: a triangle of 1,000 samples between 0 and 4,000.
 fn sample_byte(i: usize) -> u8 {
     let t = i / 2 % 1000;
     let value = if t < 500 { 8 * t } else { 8 * (1000 - t) };
-    if i % 2 == 0 {
-        (value / 256 % 256) as u8
-    } else {
-        (value % 256) as u8
-    }
+    let [high, low] = (value as u16).to_be_bytes();
+    if i % 2 == 0 { high } else { low }
 }
 
 // Byte i of a ruler, with a mark at every 560th, 80th, 10th and 2nd byte: such a string has many nodes at every level.
 fn ruler_byte(i: usize) -> u8 {
     if i % 560 == 0 {
-        return 98;
-    }
-    if i % 80 == 0 {
-        return 249;
-    }
-    if i % 10 == 0 {
-        return 215;
-    }
-    if i % 2 == 0 { 122 } else { 230 }
-}
-
-// Byte i of a string of the kind, where x is the generator's number for it.
-fn byte_at(kind: u64, i: usize, x: u64) -> u8 {
-    let random = (x / 72057594037927936 % 256) as u8;
-    match kind {
-        0 => 0,
-        1 => 7,
-        3 => random / 64,
-        4 => sample_byte(i),
-        6 => ruler_byte(i),
-        _ => random,
+        98
+    } else if i % 80 == 0 {
+        249
+    } else if i % 10 == 0 {
+        215
+    } else if i % 2 == 0 {
+        122
+    } else {
+        230
     }
 }
 
-// Writes byte i of a string of the kind: from place 37 on, kind 5 is what it was 37 places before.
-fn write_byte(string: &mut [u8], i: usize, kind: u64, x: u64) {
-    if string.len() <= i {
-        return;
-    }
-    if kind == 5 {
-        if 37 <= i {
-            string[i] = string[i - 37];
-            return;
+impl Kind {
+    // Byte i of a string of the kind, where `random` is the generator's for it.
+    fn byte_at(self, i: usize, random: u8) -> u8 {
+        match self {
+            Kind::Zeros => 0,
+            Kind::Sevens => 7,
+            Kind::FourValues => random / 64,
+            Kind::Samples => sample_byte(i),
+            Kind::Ruler => ruler_byte(i),
+            Kind::Random | Kind::Repeated => random,
         }
     }
-    string[i] = byte_at(kind, i, x);
+
+    pub fn fill(self, string: &mut [u8]) {
+        let mut x = string.len() as u64 % 131072 * 8 + self as u64;
+        for i in 0..string.len() {
+            x = x.wrapping_mul(FACTOR).wrapping_add(INCREMENT);
+            string[i] = if self == Kind::Repeated && BLOCK <= i {
+                string[i - BLOCK]
+            } else {
+                let [random, ..] = x.to_be_bytes();
+                self.byte_at(i, random)
+            };
+        }
+    }
+
+    // A string of the kind and so many bytes, or as many as the buffer has, at the buffer's front.
+    pub fn string(self, buffer: &mut [u8], length: usize) -> &mut [u8] {
+        let length = length.min(buffer.len());
+        let string = &mut buffer[..length];
+        self.fill(string);
+        string
+    }
 }
 
-// Fills the string: kind 0 with 0, 1 with 7, 2 with random bytes, 3 with random bytes of four values, 4 with samples,
-// 5 with a random block of 37 bytes over and over, 6 with a ruler.
-pub fn fill(kind: u64, string: &mut [u8]) {
-    let mut x = string.len() as u64 % 131072 * 8 + kind % 8;
-    for i in 0..string.len() {
-        x = random_step(x);
-        write_byte(string, i, kind, x);
+impl fmt::Display for Kind {
+    fn fmt<W: fmt::Write>(&self, f: &mut fmt::Formatter<W>) -> fmt::Result {
+        let number = *self as u8;
+        write!(f, "{number}")
+    }
+}
+
+// The middle byte is one more, 0 after 255.
+pub fn change(string: &mut [u8]) {
+    let middle = string.len() / 2;
+    if middle < string.len() {
+        string[middle] = string[middle].wrapping_add(1);
     }
 }

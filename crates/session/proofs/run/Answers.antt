@@ -3,38 +3,38 @@ use mathlib.Core.Path.{◌∙◌}
 use Rattle.session.proofs.Setups.{sender_refused, receiver_refused, all_exchanged}
 use Rattle.session.proofs.run.Goals as goal
 
-pub shape_of-nodes-then-answer-lt4294967296 : goal.shape_of-nodes-then-answer-lt4294967296
-shape_of-nodes-then-answer-lt4294967296 c = c.fill_tables-answer.auto.nodes
+pub shape_of-nodes-then-answer-lt-ACCEPTED : goal.shape_of-nodes-then-answer-lt-ACCEPTED
+shape_of-nodes-then-answer-lt-ACCEPTED c = c.fill_tables-answer.auto.nodes
 
-pub shape_of-shingles-then-answer-lt4294967296 : goal.shape_of-shingles-then-answer-lt4294967296
-shape_of-shingles-then-answer-lt4294967296 c = c.fill_tables-answer.auto.shingles
+pub shape_of-shingles-then-answer-lt-ACCEPTED : goal.shape_of-shingles-then-answer-lt-ACCEPTED
+shape_of-shingles-then-answer-lt-ACCEPTED c = c.fill_tables-answer.auto.shingles
 
-pub shape_of-cells-then-answer-lt4294967296 : goal.shape_of-cells-then-answer-lt4294967296
-shape_of-cells-then-answer-lt4294967296 c = c.fill_tables-answer.auto.cells
+pub shape_of-cells-then-answer-lt-ACCEPTED : goal.shape_of-cells-then-answer-lt-ACCEPTED
+shape_of-cells-then-answer-lt-ACCEPTED c = c.fill_tables-answer.auto.cells
 
-pub returns-then-answer-lt4294967296 : goal.returns-then-answer-lt4294967296
-returns-then-answer-lt4294967296 c = sender_refused c.fill_tables-answer.ensures c.if-answer-lt4294967296.true
+pub returns-then-answer-lt-ACCEPTED : goal.returns-then-answer-lt-ACCEPTED
+returns-then-answer-lt-ACCEPTED c = sender_refused c.fill_tables-answer.ensures c.if-answer-lt-ACCEPTED.true
 
-pub shape_of-nodes-then-refused-lt4294967296 : goal.shape_of-nodes-then-refused-lt4294967296
-shape_of-nodes-then-refused-lt4294967296 c = c.fill_tables-answer.auto.nodes
+pub shape_of-nodes-then-refused-lt-ACCEPTED : goal.shape_of-nodes-then-refused-lt-ACCEPTED
+shape_of-nodes-then-refused-lt-ACCEPTED c = c.fill_tables-answer.auto.nodes
 
-pub shape_of-shingles-then-refused-lt4294967296 : goal.shape_of-shingles-then-refused-lt4294967296
-shape_of-shingles-then-refused-lt4294967296 c = c.fill_tables-answer.auto.shingles
+pub shape_of-shingles-then-refused-lt-ACCEPTED : goal.shape_of-shingles-then-refused-lt-ACCEPTED
+shape_of-shingles-then-refused-lt-ACCEPTED c = c.fill_tables-answer.auto.shingles
 
-pub shape_of-cells-then-refused-lt4294967296 : goal.shape_of-cells-then-refused-lt4294967296
-shape_of-cells-then-refused-lt4294967296 c = c.fill_tables-answer.auto.cells
+pub shape_of-cells-then-refused-lt-ACCEPTED : goal.shape_of-cells-then-refused-lt-ACCEPTED
+shape_of-cells-then-refused-lt-ACCEPTED c = c.fill_tables-answer.auto.cells
 
-pub shape_of-own_nodes-then-refused-lt4294967296 : goal.shape_of-own_nodes-then-refused-lt4294967296
-shape_of-own_nodes-then-refused-lt4294967296 c = c.setup-made.auto.nodes
+pub shape_of-own_nodes-then-refused-lt-ACCEPTED : goal.shape_of-own_nodes-then-refused-lt-ACCEPTED
+shape_of-own_nodes-then-refused-lt-ACCEPTED c = c.setup-made.auto.nodes
 
-pub shape_of-own_shingles-then-refused-lt4294967296 : goal.shape_of-own_shingles-then-refused-lt4294967296
-shape_of-own_shingles-then-refused-lt4294967296 c = c.setup-made.auto.shingles
+pub shape_of-own_shingles-then-refused-lt-ACCEPTED : goal.shape_of-own_shingles-then-refused-lt-ACCEPTED
+shape_of-own_shingles-then-refused-lt-ACCEPTED c = c.setup-made.auto.shingles
 
-pub shape_of-own_cells-then-refused-lt4294967296 : goal.shape_of-own_cells-then-refused-lt4294967296
-shape_of-own_cells-then-refused-lt4294967296 c = c.setup-made.auto.cells
+pub shape_of-own_cells-then-refused-lt-ACCEPTED : goal.shape_of-own_cells-then-refused-lt-ACCEPTED
+shape_of-own_cells-then-refused-lt-ACCEPTED c = c.setup-made.auto.cells
 
-pub returns-then-refused-lt4294967296 : goal.returns-then-refused-lt4294967296
-returns-then-refused-lt4294967296 c = receiver_refused c.fill_tables-answer.ensures c.if-answer-lt4294967296.false c.setup-made.ensures c.if-refused-lt4294967296.true
+pub returns-then-refused-lt-ACCEPTED : goal.returns-then-refused-lt-ACCEPTED
+returns-then-refused-lt-ACCEPTED c = receiver_refused c.fill_tables-answer.ensures c.if-answer-lt-ACCEPTED.false c.setup-made.ensures c.if-refused-lt-ACCEPTED.true
 
 pub shape_of-nodes : goal.shape_of-nodes
 shape_of-nodes c = c.fill_tables-answer.auto.nodes
@@ -62,5 +62,5 @@ shape_of-output c = c.exchange_all.auto.output
 
 pub returns : goal.returns
 returns c =
-    all_exchanged c.fill_tables-answer.ensures c.if-answer-lt4294967296.false c.setup-made.ensures c.if-refused-lt4294967296.false
+    all_exchanged c.fill_tables-answer.ensures c.if-answer-lt-ACCEPTED.false c.setup-made.ensures c.if-refused-lt-ACCEPTED.false
     c.exchange_all.ensures

@@ -1,5 +1,4 @@
-use Prim.Native.Nat.{◌-◌}
-use borrow.Author.Rules.{rules}
+use Rattle.std.proofs.Common.{rules}
 use Rattle.state_bytes.proofs.Loading.{reading_start, reading_next, reading_end}
 use Rattle.state_bytes.proofs.load_places.Goals as goal
 

@@ -1,6 +1,4 @@
-use mathlib.Core.Path.{refl}
-use Prim.Native.Nat.{◌-◌}
-use borrow.Author.Rules.{rules}
+use Rattle.std.proofs.Common.{refl, rules}
 use Rattle.state_bytes.proofs.Storing.{rowing_start, rowing_next, rowing_end}
 use Rattle.state_bytes.proofs.store_head.Goals as goal
 

@@ -6,8 +6,8 @@ use Rattle.session.proofs.Exchange.{unasked, unanswered, all_taken}
 use borrow.Author.Rules.{rules}
 use Rattle.session.proofs.round.exchange.Goals as goal
 
-pub returns-then-asked-lt4294967296 : goal.returns-then-asked-lt4294967296
-returns-then-asked-lt4294967296 c = unasked _ c.query-asked.ensures c.if-asked-lt4294967296.true
+pub returns-then-asked-lt-ACCEPTED : goal.returns-then-asked-lt-ACCEPTED
+returns-then-asked-lt-ACCEPTED c = unasked _ c.query-asked.ensures c.if-asked-lt-ACCEPTED.true
 
 pub slice_bounds-query-end-2 : goal.slice_bounds-query-end-2
 slice_bounds-query-end-2 c =
@@ -19,8 +19,8 @@ slice_bounds-reply-end c =
     let fits = query_within c.query-asked.ensures in
     sym (length-take-le _ _ (search rules))
 
-pub returns-then-replied-lt4294967296 : goal.returns-then-replied-lt4294967296
-returns-then-replied-lt4294967296 c = unanswered _ c.query-asked.ensures c.if-asked-lt4294967296.false c.reply-replied.ensures c.if-replied-lt4294967296.true
+pub returns-then-replied-lt-ACCEPTED : goal.returns-then-replied-lt-ACCEPTED
+returns-then-replied-lt-ACCEPTED c = unanswered _ c.query-asked.ensures c.if-asked-lt-ACCEPTED.false c.reply-replied.ensures c.if-replied-lt-ACCEPTED.true
 
 pub slice_bounds-take-end : goal.slice_bounds-take-end
 slice_bounds-take-end c =
@@ -34,5 +34,5 @@ slice_bounds-take-end-2 c =
 
 pub returns : goal.returns
 returns c =
-    all_taken _ c.query-asked.ensures c.if-asked-lt4294967296.false c.reply-replied.ensures c.if-replied-lt4294967296.false
+    all_taken _ c.query-asked.ensures c.if-asked-lt-ACCEPTED.false c.reply-replied.ensures c.if-replied-lt-ACCEPTED.false
     c.take.ensures

@@ -1,6 +1,4 @@
-use Prim.Native.Nat.{◌-◌}
-use native.Mathlib.Omega.{arith}
-use borrow.Author.Rules.{rules}
+use Rattle.std.proofs.Common.{arith, rules}
 use Rattle.state.proofs.Keeping.{clearing_start, clearing_next, clearing_end}
 use Rattle.state.proofs.pile.clear_above.Goals as goal
 
@@ -8,7 +6,7 @@ pub loop-above-init : goal.loop-above-init
 loop-above-init c = clearing_start _ _ (search rules)
 
 pub loop-above-preserved : goal.loop-above-preserved
-loop-above-preserved c = clearing_next _ _ _ _ c.loop-above.invariant (omega (arith, c.loop-above-test.true))
+loop-above-preserved c = clearing_next _ _ _ _ c.loop-above.invariant (omega arith)
 
 pub returns : goal.returns
-returns c = clearing_end _ _ _ _ c.loop-above.invariant (omega (arith, c.loop-above-test.false))
+returns c = clearing_end _ _ _ _ c.loop-above.invariant (omega arith)
