@@ -7,20 +7,16 @@ use native.Mathlib.Omega.{arith}
 use native.Mathlib.Decide.{dec_lt}
 use lib.ListN.{length}
 use Rattle.protocol.specs.State.{over, going}
-use Rattle.protocol.specs.Receiver.{Settled, too_long, left, Result, refused, handed, waiting, number_of}
+use Rattle.protocol.specs.Receiver.{Settled, too_long, left, Result, number_of}
 use Rattle.copying.specs.declared.Waiting.{Waiting}
 use Rattle.copying.specs.Copying.{pile_of, settled_from}
-use Rattle.handover.specs.declared.Outcome.{Outcome}
 use Rattle.handover.specs.Handover.{whole, answer_of, Concluded}
 use Rattle.handover.proofs.Outcomes.{refuses, hands, goes_on}
 use Rattle.state.specs.declared.Receiver.{Receiver}
 use Rattle.state.specs.declared.Taken.{Taken}
-use Rattle.state.specs.Receivers.{state_of, Holds}
+use Rattle.state.specs.Receivers.{state_of, progress_number, Holds}
 use Rattle.state.proofs.Keeping.{holds_by}
 use Rattle.advance.specs.Advance.{Advanced}
-
-abbrev taking : ℕ → Receiver → Taken
-taking answer state = record { answer = answer; state = state }
 
 -- A refusal after copying is 18 or 19.
 answer_apart : (size root : ℕ) (x : Settled)
@@ -34,24 +30,27 @@ answer_apart size root (left built []) = go (whole size root built)
     go false = (λ h. omega arith, λ h. omega arith)
 answer_apart size root (left built (e ∷ es)) = (λ h. absurd (omega (arith, h)), λ h. omega arith)
 
-module _ {string nodes : List ℕ} {size root : ℕ} {before after : List ℕ} {built waits : ℕ} {places : List Waiting} {o : Outcome}
-    (c : Concluded string nodes size root before after built waits places o) where
-  apart : (0 < o.answer → 18 ≤ o.answer) × (o.answer < 2 ^ 32 → o.answer ≤ 19)
+module _ {string nodes : List ℕ} {size root : ℕ} {before after : List ℕ} {built waits : ℕ} {places : List Waiting} (r : Taken) {end remaining : ℕ}
+    (c : Concluded string nodes size root before after built waits places (progress_number r.answer) end remaining) where
+  abbrev number : ℕ
+  number = progress_number r.answer
+
+  apart : (0 < number → 18 ≤ number) × (number < 2 ^ 32 → number ≤ 19)
   apart =
       subst (λ (k : ℕ). (0 < k → 18 ≤ k) × (k < 2 ^ 32 → k ≤ 19)) (sym c.answer)
       (answer_apart size root (settled_from string nodes size before built waits places))
 
   -- The session is over: refused, or the string handed over.
-  pub advanced_over : {s s' : Receiver} {taken : ℕ} → (o.answer ≡ 0 → ⊥) → Holds (over (state_of s)) s'
-      → Advanced s size root taken string nodes before after built waits places (taking o.answer s')
+  pub advanced_over : {s : Receiver} {taken : ℕ} → (number ≡ 0 → ⊥) → Holds (over (state_of s)) r.state
+      → Advanced s size root taken string nodes before after built waits places r
   unfolding number_of
   advanced_over {s = s} {taken = taken} fails over-is =
-      let above : 0 < o.answer = omega (arith, fails) in
+      let above : 0 < number = omega (arith, fails) in
       record {
         apart = apart.0;
         small = apart.1;
         gives = λ m table behind long.
-            elim (dec_lt o.answer (2 ^ 32)) [
+            elim (dec_lt number (2 ^ 32)) [
               | yes small ↦
                   let e = refuses c (state_of s) m table taken behind long above small in
                   record {
@@ -74,9 +73,9 @@ module _ {string nodes : List ℕ} {size root : ℕ} {before after : List ℕ} {
       }
 
   -- The session goes on.
-  pub advanced_on : {s s' : Receiver} {taken : ℕ} → o.answer ≡ 0 → length after ≡ length before
-      → Holds (going (state_of s) size root o.built taken (pile_of o.waiting places)) s'
-      → Advanced s size root taken string nodes before after built waits places (taking o.answer s')
+  pub advanced_on : {s : Receiver} {taken : ℕ} → number ≡ 0 → length after ≡ length before
+      → Holds (going (state_of s) size root end taken (pile_of remaining places)) r.state
+      → Advanced s size root taken string nodes before after built waits places r
   unfolding number_of
   advanced_on {s = s} {taken = taken} zero same on =
       record {

@@ -1,24 +1,28 @@
 // How taking a message leaves the session: over by a question's no, or, once own nodes are copied, going on or over.
 #![tactic(auto)]
 
+ghost use Rattle.refusal.specs.Answer.{number_of};
 ghost use Rattle.advance.specs.Advance.{Ended, Advanced};
 
 use copying::Waiting;
-use state::{Receiver, Taken};
+use handover::Outcome;
+use refusal::Refusal;
+use state::{Progress, Receiver, Taken};
 
 // Ends the session by a question's no, and zeroes the output.
-pub fn end(state: Receiver, question: u64, output: &mut [u8]) -> Taken
-    ensures { Ended state question output.old output.new result }
+pub fn end(state: Receiver, question: Refusal, output: &mut [u8]) -> Taken
+    ensures { Ended state (number_of question) output.old output.new result }
 {
     rows::clear(output, 0);
     let ended = state::over(state);
     Taken {
-        answer: question,
+        answer: Err(question),
         state: ended,
     }
 }
 
-// Copies own nodes and asks 18 and 19. So many bytes are built, and so many nodes are pending, before.
+// Copies own nodes and asks whether the output stays within its length and whether the string is the announced one. So many bytes are
+// built, and so many nodes are pending, before.
 pub fn advance(
     state: Receiver,
     size: u64,
@@ -34,7 +38,7 @@ pub fn advance(
     ensures { Advanced state size root taken string.now nodes.now output.old output.new built
         waiting pile result }
 {
-    let outcome = handover::conclude(
+    match handover::conclude(
         string,
         nodes,
         size as usize,
@@ -43,19 +47,18 @@ pub fn advance(
         built,
         waiting,
         pile,
-    );
-    let answer = outcome.answer;
-    if answer != 0 {
-        let ended = state::over(state);
-        return Taken {
-            answer,
-            state: ended,
-        };
-    }
-    let bytes = outcome.built as u64;
-    let going = state::going(state, size, root, bytes, taken, outcome.waiting, pile);
-    Taken {
-        answer,
-        state: going,
+    ) {
+        Ok(Outcome::Going { built, waiting }) => Taken {
+            answer: Ok(Progress::Going),
+            state: state::going(state, size, root, built as u64, taken, waiting, pile),
+        },
+        Ok(Outcome::Whole { length }) => Taken {
+            answer: Ok(Progress::HandedOver(length)),
+            state: state::over(state),
+        },
+        Err(question) => Taken {
+            answer: Err(question),
+            state: state::over(state),
+        },
     }
 }

@@ -1,81 +1,54 @@
 -- The ways out of judging are cases of the questions in their order: 12 or 13 refuses, or the opening's cells are asked.
-use mathlib.Core.Bool.{Bool, true, false, cond, ◌&&◌}
-use mathlib.Core.List.{List, []}
-use mathlib.Core.Path.{◌≡◌, refl, sym, ap, ap₂, ◌∙◌}
-use Prim.Native.Nat.{ℕ}
-use native.Mathlib.Omega.{arith}
-use lib.ListN.{replicate}
+use Rattle.std.proofs.Common.{Bool, true, false, List, ◌≡◌, refl, sym, ap, ◌∙◌, ℕ, Result, Ok, Err}
+use Rattle.refusal.specs.declared.Refusal.{Refusal}
 use Rattle.tree.specs.declared.Settings.{Settings}
 use Rattle.tree.specs.Questions.{ask}
-use Rattle.entries.specs.Entries.{table_bytes}
 use Rattle.sketch.specs.Opening.{Signed, positives, negatives}
 use Rattle.single.specs.Peeling.{list_table}
-use Rattle.opening.specs.Deciding.{open_refusal, taken_after, Decided}
+use Rattle.opening.specs.declared.Opening.{Opening}
+use Rattle.opening.specs.Deciding.{open_refusal, taken_after, Decided, Decides}
 use Rattle.announced.specs.Cells.{cell_table}
-use Rattle.announced.specs.Judging.{same_settings, length_fits, announced_refusal, announced_taken, Judged}
+use Rattle.announced.specs.Judging.{same_settings, length_fits, announced_refusal, announced_taken, Judged, Judges}
 
--- Two questions asked before others: one refuses and nothing is taken, or both are passed.
-refuses : (a b : Bool) (later early : ℕ) (zs : List Signed) → early ≡ ask a 12 (ask b 13 0) → (early ≡ 0 → ⊥)
-    → (early ≡ ask a 12 (ask b 13 later)) × (cond (a && b) zs [] ≡ [])
-unfolding ask
-refuses true true later early zs e fails = absurd (fails e)
-refuses true false later early zs e fails = (e, refl)
-refuses false b later early zs e fails = (e, refl)
+module _ (σ : Settings) (rule : ℕ) (τ : Settings) (size room : ℕ) (message cells shingles : List ℕ) where
+  abbrev equal : Bool
+  equal = same_settings σ rule τ.window τ.fan_out τ.levels τ.nominal τ.width
 
-passes : (a b : Bool) (later early : ℕ) (zs : List Signed) → early ≡ ask a 12 (ask b 13 0) → early ≡ 0
-    → (ask a 12 (ask b 13 later) ≡ later) × (cond (a && b) zs [] ≡ zs)
-unfolding ask
-passes true true later early zs e z = (refl, refl)
-passes true false later early zs e z = absurd (omega arith)
-passes false b later early zs e z = absurd (omega arith)
+  abbrev refusal : ℕ
+  refusal = announced_refusal σ rule τ.window τ.fan_out τ.levels τ.nominal τ.width size room message cells shingles
 
--- Tables of nothing.
-no_positives : replicate 4608 0 ≡ list_table 4608 (positives [])
-unfolding list_table table_bytes positives
-no_positives = refl
+  abbrev theirs : List ℕ
+  theirs = cell_table message τ.width
 
-no_negatives : replicate 4608 0 ≡ list_table 4608 (negatives [])
-unfolding list_table table_bytes negatives
-no_negatives = refl
+  pub other_settings : equal ≡ false → 12 ≡ refusal
+  unfolding announced_refusal ask
+  other_settings other = rw other refl
 
-module _ (σ : Settings) (rule w p L M q size room : ℕ) (message cells shingles : List ℕ) (equal fits : Bool) (next early : ℕ)
-    (twelve : equal ≡ same_settings σ rule w p L M q) (thirteen : fits ≡ length_fits size room)
-    (after : next ≡ ask fits 13 0) (asked : early ≡ ask equal 12 next) where
-  both : early ≡ ask (same_settings σ rule w p L M q) 12 (ask (length_fits size room) 13 0)
-  both =
-      asked ∙ (ap (ask equal 12) after
-      ∙ ap₂ (λ (a b : Bool). ask a 12 (ask b 13 0)) twelve thirteen)
+  pub too_long : equal ≡ true → length_fits size room ≡ false → 13 ≡ refusal
+  unfolding announced_refusal ask
+  too_long same long = rw (same, long) refl
 
-  abbrev later : ℕ
-  later = open_refusal σ.levels σ.width (cell_table message q) cells shingles
+  module _ (same : equal ≡ true) (fits : length_fits size room ≡ true) where
+    refused_later : refusal ≡ open_refusal σ.levels σ.width theirs cells shingles
+    unfolding announced_refusal ask
+    refused_later = rw (same, fits) refl
 
-  abbrev taken : List Signed
-  taken = taken_after σ.levels σ.width (cell_table message q) cells shingles
+    taken_later : announced_taken σ rule τ.window τ.fan_out τ.levels τ.nominal τ.width size room message cells shingles
+        ≡ taken_after σ.levels σ.width theirs cells shingles
+    unfolding announced_taken
+    taken_later = rw (same, fits) refl
 
-  pub refused : (early ≡ 0 → ⊥) → Judged σ rule w p L M q size room message cells shingles early (replicate 4608 0) (replicate 4608 0)
-  unfolding announced_refusal announced_taken
-  refused fails =
-      let out = refuses _ _ later early taken both fails in
-      record {
-        answer = out.0;
-        new_bytes = no_positives ∙ ap (λ (zs : List Signed). list_table 4608 (positives zs)) (sym out.1);
-        gone_bytes = no_negatives ∙ ap (λ (zs : List Signed). list_table 4608 (negatives zs)) (sym out.1);
-        decided = λ z. absurd (fails z);
-      }
+    judged : (r : ℕ) (new gone : List ℕ) → Decided σ.levels σ.width theirs cells shingles r new gone
+        → Judged σ rule τ.window τ.fan_out τ.levels τ.nominal τ.width size room message cells shingles r new gone
+    judged r new gone d =
+        record {
+          answer = d.answer ∙ sym refused_later;
+          new_bytes = d.new_bytes ∙ ap (λ (zs : List Signed). list_table 4608 (positives zs)) (sym taken_later);
+          gone_bytes = d.gone_bytes ∙ ap (λ (zs : List Signed). list_table 4608 (negatives zs)) (sym taken_later);
+          decided = λ e. d;
+        }
 
-  judged : early ≡ 0 → (r : ℕ) (new gone : List ℕ) → Decided σ.levels σ.width (cell_table message q) cells shingles r new gone
-      → Judged σ rule w p L M q size room message cells shingles r new gone
-  unfolding announced_refusal announced_taken
-  judged z r new gone d =
-      let on = passes _ _ later early taken both z in
-      record {
-        answer = d.answer ∙ sym on.0;
-        new_bytes = d.new_bytes ∙ ap (λ (zs : List Signed). list_table 4608 (positives zs)) (sym on.1);
-        gone_bytes = d.gone_bytes ∙ ap (λ (zs : List Signed). list_table 4608 (negatives zs)) (sym on.1);
-        decided = λ e. d;
-      }
-
-  pub judged_by : early ≡ 0 → (theirs : List ℕ) → theirs ≡ cell_table message q → (r : ℕ) (new gone : List ℕ)
-      → Decided σ.levels σ.width theirs cells shingles r new gone
-      → Judged σ rule w p L M q size room message cells shingles r new gone
-  judged_by z theirs is r new gone d = judged z r new gone (rw is at d)
+    pub judged_by : (table : List ℕ) → table ≡ theirs → (r : Result Opening Refusal) → Decides σ.levels σ.width table cells shingles r
+        → Judges σ rule τ size room message cells shingles r
+    judged_by table is (Ok opening) d = judged 0 opening.new opening.gone (rw is at d)
+    judged_by table is (Err question) d = rw is at d ∙ sym refused_later

@@ -43,7 +43,7 @@ pub record Heard (s : State) (m : Lent) (σ : Settings) (room : ℕ) (message ce
   pub room_is : length m.output ≡ room
   pub message_is : parse message ≡ some (opening n rule w p L M q size root values)
 
--- The same where what was judged is no copy: a call is then `refusal_is (heard seven is) judged`.
+-- The same where what was judged is no copy: a call is then `refusal_is (heard seven is) judged.answer`.
 pub heard : {s : State} {m : Lent} {message : List ℕ} {n rule w p L M q size root : ℕ} {values : List ℕ}
     → refused_by s.settings m ≡ 0 → parse message ≡ some (opening n rule w p L M q size root values)
     → Heard s m s.settings (length m.output) message m.cells m.shingles n rule w p L M q size root values
@@ -142,32 +142,37 @@ module _ (s : State) (m : Lent) (message : List ℕ) (n rule w p L M q size root
 
 -- The same of what was judged.
 module _ {s : State} {m : Lent} {σ : Settings} {room : ℕ} {message cells shingles : List ℕ} {n rule w p L M q size root : ℕ}
-    {values : List ℕ} {r : ℕ} {new gone : List ℕ} (h : Heard s m σ room message cells shingles n rule w p L M q size root values)
-    (j : Judged σ rule w p L M q size room message cells shingles r new gone) where
-  own_judged : Judged s.settings rule w p L M q size (length m.output) message m.cells m.shingles r new gone
-  own_judged = rw (h.settings_are, h.cells_are, h.shingles_are, h.room_is) j
-
+    {values : List ℕ} (h : Heard s m σ room message cells shingles n rule w p L M q size root values) where
   own_seven : refused_by s.settings m ≡ 0
   own_seven = rw h.settings_are h.passed_seven
 
   -- The refusal is that of the receiver's definition.
-  pub refusal_is : r ≡ opening_refusal s m rule w p L M q size values
-  refusal_is = own_judged.answer ∙ same_refusal s m message n rule w p L M q size root values own_seven h.message_is
+  module _ {r : ℕ} (answer : r ≡ announced_refusal σ rule w p L M q size room message cells shingles) where
+    own_answer : r ≡ announced_refusal s.settings rule w p L M q size (length m.output) message m.cells m.shingles
+    own_answer = rw (h.settings_are, h.cells_are, h.shingles_are, h.room_is) answer
 
-  -- What writing the new list of an accepted opening leaves is the receiver's shingle table.
-  pub table_is : r ≡ 0 → {after : List ℕ} {answer : ℕ} → Renewed new gone shingles after answer
-      → after ≡ list_table (length m.shingles) (new_list (shingles_in m.shingles) (peeled_of s.settings m values).taken)
-  table_is z {after} {answer} written =
-      same_table s m message n rule w p L M q size root values own_seven h.message_is r new gone own_judged z after answer
-      (rw h.shingles_are written)
+    pub refusal_is : r ≡ opening_refusal s m rule w p L M q size values
+    refusal_is = own_answer ∙ same_refusal s m message n rule w p L M q size root values own_seven h.message_is
 
-  -- Taking the opening: refused, or concluded with the table that was written.
-  pub opening_refused : (r ≡ 0 → ⊥) → take_opening s m rule w p L M q size root values ≡ ends r s m
-  unfolding take_opening
-  opening_refused fails = rw (← refusal_is, ne_eqb r 0 fails)
+    -- Taking the opening is refused.
+    pub opening_refused : (r ≡ 0 → ⊥) → take_opening s m rule w p L M q size root values ≡ ends r s m
+    unfolding take_opening
+    opening_refused fails = rw (← refusal_is, ne_eqb r 0 fails)
 
-  pub opening_taken : r ≡ 0 → {after : List ℕ} {answer : ℕ} → Renewed new gone shingles after answer
-      → take_opening s m rule w p L M q size root values
-      ≡ conclude s m after size root 0 (settle (find m) size [] (pending 0 root ∷ []))
-  unfolding take_opening
-  opening_taken z written = rw (← refusal_is, eq-eqb r 0 z, ← table_is z written)
+  module _ {r : ℕ} {new gone : List ℕ} (j : Judged σ rule w p L M q size room message cells shingles r new gone) where
+    own_judged : Judged s.settings rule w p L M q size (length m.output) message m.cells m.shingles r new gone
+    own_judged = rw (h.settings_are, h.cells_are, h.shingles_are, h.room_is) j
+
+    -- What writing the new list of an accepted opening leaves is the receiver's shingle table.
+    pub table_is : r ≡ 0 → {after : List ℕ} {answer : ℕ} → Renewed new gone shingles after answer
+        → after ≡ list_table (length m.shingles) (new_list (shingles_in m.shingles) (peeled_of s.settings m values).taken)
+    table_is z {after} {answer} written =
+        same_table s m message n rule w p L M q size root values own_seven h.message_is r new gone own_judged z after answer
+        (rw h.shingles_are written)
+
+    -- Taking the opening is concluded with the table that was written.
+    pub opening_taken : r ≡ 0 → {after : List ℕ} {answer : ℕ} → Renewed new gone shingles after answer
+        → take_opening s m rule w p L M q size root values
+        ≡ conclude s m after size root 0 (settle (find m) size [] (pending 0 root ∷ []))
+    unfolding take_opening
+    opening_taken z written = rw (← refusal_is j.answer, eq-eqb r 0 z, ← table_is z written)

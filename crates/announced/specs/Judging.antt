@@ -1,11 +1,14 @@
 -- What an opening's announcement comes to: document 01, 'Questions, in order', "12 opening's rule and settings equal the own? 13 announced
 -- length at most 65,536 and at most the buffer lent now? 14 does the sketch open?"
-use Rattle.std.specs.Prelude.{Bool, cond, ◌&&◌, List, [], ◌≡◌, ℕ, leb, eqb}
+use Rattle.std.specs.Prelude.{Bool, cond, ◌&&◌, List, [], ◌≡◌, ℕ, leb, eqb, Result, Ok, Err}
 use Rattle.partition.specs.Cuts.{rule_number}
 use Rattle.tree.specs.declared.Settings.{Settings}
 use Rattle.tree.specs.Questions.{ask}
 use Rattle.sketch.specs.Opening.{Signed, positives, negatives}
 use Rattle.single.specs.Peeling.{list_table}
+use Rattle.refusal.specs.declared.Refusal.{Refusal}
+use Rattle.refusal.specs.Answer.{number_of}
+use Rattle.opening.specs.declared.Opening.{Opening}
 use Rattle.opening.specs.Deciding.{open_refusal, taken_after, Decided}
 use Rattle.announced.specs.Cells.{cell_table}
 
@@ -38,3 +41,10 @@ pub record Judged (σ : Settings) (rule w p L M q size room : ℕ) (message cell
   pub new_bytes : new ≡ list_table 4608 (positives (announced_taken σ rule w p L M q size room message cells shingles))
   pub gone_bytes : gone ≡ list_table 4608 (negatives (announced_taken σ rule w p L M q size room message cells shingles))
   pub decided : refusal ≡ 0 → Decided σ.levels σ.width (cell_table message q) cells shingles refusal new gone
+
+-- The same of an answer, where τ are the settings announced: a refusal has no tables.
+abbrev pub Judges : Settings → (rule : ℕ) → Settings → (size room : ℕ) (message cells shingles : List ℕ) → Result Opening Refusal → Type 0
+Judges σ rule τ size room message cells shingles (Ok opening) =
+    Judged σ rule τ.window τ.fan_out τ.levels τ.nominal τ.width size room message cells shingles 0 opening.new opening.gone
+Judges σ rule τ size room message cells shingles (Err question) =
+    number_of question ≡ announced_refusal σ rule τ.window τ.fan_out τ.levels τ.nominal τ.width size room message cells shingles

@@ -4,40 +4,32 @@
 mod cells;
 mod question;
 
-ghost use Rattle.announced.specs.Judging.{Judged};
+ghost use Rattle.announced.specs.Judging.{Judges};
 
 use opening::Opening;
+use refusal::Refusal;
 use tree::Settings;
 
-// What an opening's announcement comes to: refusal 0, or 12, 13 or 14 (or 3, 5 or 7, where the settings or the tables are not such as the
-// receiver has asked for before), and what its sketch opens to. Nothing that is lent changes.
+// What an opening's announcement comes to: what its sketch opens to, or which question refuses. Beside the settings, the length and the
+// sketch those of levels, width and room are asked again, of what the receiver has asked for before. Nothing that is lent changes.
 pub fn judge(
     settings: Settings,
     rule: u64,
-    w: u64,
-    p: u64,
-    levels: u64,
-    m: u64,
-    q: u64,
+    announced: Settings,
     length: u64,
     room: usize,
     message: &[u8],
     cells: &[u8],
     shingles: &[u8],
-) -> Opening
-    ensures { Judged settings rule w p levels m q length room message.now cells.now shingles.now
-        result.refusal result.new result.gone }
+) -> Result<Opening, Refusal>
+    ensures { Judges settings rule announced length room message.now cells.now shingles.now result }
 {
-    let equal = question::same(settings, rule, w, p, levels, m, q);
-    let fits = question::fits(length, room);
-    let early = question::asked(equal, 12, question::asked(fits, 13, 0));
-    if early != 0 {
-        return Opening {
-            refusal: early,
-            new: [0u8; 4608],
-            gone: [0u8; 4608],
-        };
+    if !question::same(settings, rule, announced) {
+        return Err(Refusal::OtherSettings);
     }
-    let theirs = cells::cells_of(message, q);
+    if !question::fits(length, room) {
+        return Err(Refusal::OutputLength);
+    }
+    let theirs = cells::cells_of(message, announced.width);
     opening::decide(settings.levels, settings.width, &theirs, cells, shingles)
 }

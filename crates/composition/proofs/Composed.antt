@@ -1,20 +1,14 @@
 -- What a receiver takes from the answer: of a well-formed composition it is question 17's, and the children are those of the definition.
-use mathlib.Core.Bool.{Bool, true, false, cond, ◌&&◌}
-use mathlib.Core.List.{List, [], ◌∷◌, map}
-use mathlib.Core.Option.{Option, none, some}
-use mathlib.Core.Path.{◌≡◌, refl, sym, ap, subst, ◌∙◌}
-use Prim.Native.Nat.{ℕ, zero, suc, ◌+◌, ◌%◌, ◌≤◌, ◌<◌}
-use native.Mathlib.Omega.{arith}
-use borrow.Author.Tests.{le-leb}
-use lib.Dec.{eqb, leb}
-use lib.ListN.{length, get_or, take, drop, length-map}
-use lib.Seq.{take_at, ext_get_or}
+use Rattle.std.proofs.Common.{None, Some, Option as Answer, Bool, true, false, cond, ◌&&◌, List, [], ◌∷◌, map, ◌≡◌, refl, sym, ap, subst, ◌∙◌, ℕ, zero, suc, ◌+◌, ◌%◌, ◌≤◌, ◌<◌, arith, le-leb, eqb, leb, length, get_or, take, drop, take_at, ext_get_or}
+use Rattle.std.proofs.Math.Option.{Option, none, some}
+use Rattle.std.specs.Option.{is_some}
+use lib.ListN.{length-map}
 use Rattle.tree.specs.declared.Settings.{Settings}
 use Rattle.shingle.specs.declared.Shingle.{Shingle}
 use Rattle.trail.specs.Trails.{total, order_of}
 use Rattle.trail.proofs.Orders.{listed_length}
 use Rattle.message.specs.Words.{link_words, Ref, reference_word, is_end_word}
-use Rattle.message.specs.Fields.{Every, one, head, number, value, many, many_from, text_after}
+use Rattle.message.specs.Fields.{Every, one, head, number, maybe_number, value, many, many_from, text_after}
 use Rattle.message.specs.Messages.{Msg, composition, body_of, parse_words, parse}
 use Rattle.message.specs.Reading.{stated_by, references_at, numbers_are, pair_is, opening_by_places}
 use Rattle.message.specs.Parts.{references_in, is_numbered}
@@ -26,8 +20,7 @@ use Rattle.message.proofs.Parts.{reference_read}
 use Rattle.protocol.specs.Numbers.{meant_by}
 use Rattle.protocol.specs.State.{pending}
 use Rattle.protocol.specs.Receiver.{previouses, owns, counts, composes, children}
-use Rattle.composition.specs.declared.Children.{Children}
-use Rattle.composition.specs.Composition.{refs_from, refs_in, refused, composed_children}
+use Rattle.composition.specs.Composition.{Composing, refs_from, refs_in, refused, composed_children}
 use Rattle.composition.specs.Table.{ref}
 use Rattle.composition.proofs.Filling.{length_refs}
 use Rattle.composition.proofs.Passing.{passed}
@@ -53,7 +46,7 @@ module _ (ws : List ℕ) where
       picked (eqb t 4) _ _ e
       (λ is p.
       let at = references_at (number.is (drop 5 ws)) in
-      found_fits m (composed ws c n (number.is (drop 5 ws)) at) (pair_is ws && references_end ws c n at)
+      found_fits m (composed ws c n (maybe_number.of (drop 5 ws)) at) (pair_is ws && references_end ws c n at)
       (sym (composition_form ws c n) ∙ p) (many_fits at)) λ e.
       picked (eqb t 5) _ _ e (λ is p. found_fits m _ (pair_is ws && is_end_word c (text_after (drop 5 ws))) (sym (literal_form ws c n) ∙ p) tt) λ e.
       picked (eqb t 6) _ _ e (λ is p. found_fits m _ (pair_is ws && is_end_word c (drop 5 ws)) (sym (no_node_form ws c n) ∙ p) tt) λ e.
@@ -80,7 +73,7 @@ refs_at ws (suc n) at (suc k) d h =
     refs_at ws n (at + 1) k d (omega arith) ∙ ap (λ (m : ℕ). reference_word.of (get_or ws m 0)) {x = at + 1 + k} {y = at + suc k} (omega arith)
 
 -- What the answer says of the children.
-pub record Composed (list : List Shingle) (l : ℕ) (trail : Option ℕ) (refs : List Ref) (rest : ℕ) (r : Children) : Type 0 where
+pub record Composed (list : List Shingle) (l : ℕ) (trail : Option ℕ) (refs : List Ref) (rest : ℕ) (r : Composing) : Type 0 where
   pub pending_are : map (pending (l + 1)) (take r.count r.ids) ≡ children list l trail refs
   pub count_is : r.count ≡ total (counts refs)
   pub some_are : 1 ≤ r.count
@@ -99,7 +92,7 @@ module _ (message : List ℕ) (n l i : ℕ) (trail : Option ℕ) (refs : List Re
       (omega arith)
 
   module _ (σ : Settings) (list : List Shingle) (rest : ℕ) where
-    abbrev answer : Children
+    abbrev answer : Composing
     answer = composed_children σ list l trail refs rest
 
     not_many : composes σ list l trail refs rest ≡ true → length refs ≤ 32
@@ -114,7 +107,7 @@ module _ (message : List ℕ) (n l i : ℕ) (trail : Option ℕ) (refs : List Re
     unfolding composed_children
     composed_is = said (leb (length refs) 32) (composes σ list l trail refs rest) _ refl (λ e. le-leb (length refs) 32 (not_many e))
       where
-        said : (a b : Bool) (given : Children) → given.composed ≡ true → (b ≡ true → a ≡ true) → (cond (a && b) given refused).composed ≡ b
+        said : (a b : Bool) (given : Composing) → given.composed ≡ true → (b ≡ true → a ≡ true) → (cond (a && b) given refused).composed ≡ b
         said true true given e h = e
         said false true given e h = h refl
         said true false given e h = refl
@@ -142,25 +135,26 @@ module _ (message : List ℕ) (n l i : ℕ) (trail : Option ℕ) (refs : List Re
         columns = (length-map refs _ ∙ sym (length-map refs _), length-map refs _ ∙ sym (length-map refs _))
 
 -- A composition carries a number exactly if one is stated.
-numbered_is : (n l i : ℕ) (numbered : Bool) (number : ℕ) (refs : List Ref) → is_numbered (composition n l i (stated_by numbered number) refs) ≡ numbered
+numbered_is : (n l i : ℕ) (trail : Answer ℕ) (refs : List Ref) → is_numbered (composition n l i (stated_by trail) refs) ≡ is_some trail
 unfolding is_numbered
-numbered_is n l i true number refs = refl
-numbered_is n l i false number refs = refl
+numbered_is n l i (Some x) refs = refl
+numbered_is n l i None refs = refl
 
 -- Both, of an answer over the references that were read.
-pub record Answered (σ : Settings) (list : List Shingle) (l : ℕ) (trail : Option ℕ) (refs : List Ref) (rest : ℕ) (r : Children) : Type 0 where
+pub record Answered (σ : Settings) (list : List Shingle) (l : ℕ) (trail : Option ℕ) (refs : List Ref) (rest : ℕ) (r : Composing) : Type 0 where
   pub is : r.composed ≡ composes σ list l trail refs rest
   pub gives : r.composed ≡ true → Composed list l trail refs rest r
 
-pub answered : (message : List ℕ) (n l i : ℕ) (numbered : Bool) (number : ℕ) (refs : List Ref)
-    → parse message ≡ some (composition n l i (stated_by numbered number) refs) → (count : ℕ) → count ≡ length refs
-    → (σ : Settings) (list : List Shingle) (rest : ℕ) (r : Children)
-    → r ≡ composed_children σ list l (stated_by numbered number) (refs_in message (references_at numbered) count) rest
-    → Answered σ list l (stated_by numbered number) refs rest r
-answered message n l i numbered number refs is count e σ list rest r f =
-    let trail = stated_by numbered number in
-    let from : references_at numbered ≡ references_at (is_numbered (composition n l i trail refs)) = ap references_at (sym (numbered_is n l i numbered number refs)) in
-    let same : composed_children σ list l trail refs rest ≡ r =
-    sym (f ∙ ap (λ (x : List Ref). composed_children σ list l trail x rest) (refs_are message n l i trail refs is (references_at numbered) count from e)) in
-    subst (Answered σ list l trail refs rest) same
-    (record { is = composed_is message n l i trail refs is σ list rest; gives = composed_gives message n l i trail refs is σ list rest })
+pub answered : (message : List ℕ) (n l i : ℕ) (trail : Answer ℕ) (refs : List Ref)
+    → parse message ≡ some (composition n l i (stated_by trail) refs) → (count : ℕ) → count ≡ length refs
+    → (σ : Settings) (list : List Shingle) (rest : ℕ) (r : Composing)
+    → r ≡ composed_children σ list l (stated_by trail) (refs_in message (references_at (is_some trail)) count) rest
+    → Answered σ list l (stated_by trail) refs rest r
+answered message n l i trail refs is count e σ list rest r f =
+    let from : references_at (is_some trail) ≡ references_at (is_numbered (composition n l i (stated_by trail) refs)) =
+    ap references_at (sym (numbered_is n l i trail refs)) in
+    let same : composed_children σ list l (stated_by trail) refs rest ≡ r =
+    sym (f ∙ ap (λ (x : List Ref). composed_children σ list l (stated_by trail) x rest)
+    (refs_are message n l i (stated_by trail) refs is (references_at (is_some trail)) count from e)) in
+    subst (Answered σ list l (stated_by trail) refs rest) same
+    (record { is = composed_is message n l i (stated_by trail) refs is σ list rest; gives = composed_gives message n l i (stated_by trail) refs is σ list rest })

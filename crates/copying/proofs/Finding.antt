@@ -1,5 +1,6 @@
 -- Looking an id up: the first entry with that id, at any level, is the block of the definition.
-use mathlib.Core.Bool.{Bool, true, false, ◌&&◌, false≢true, and-eq-true_iff}
+use Rattle.std.proofs.Common.{None, Some}
+use mathlib.Core.Bool.{Bool, true, ◌&&◌, and-eq-true_iff}
 use mathlib.Core.List.{List}
 use mathlib.Core.Option.{some}
 use mathlib.Core.Path.{◌≡◌, refl, sym, ap, ◌∙◌}
@@ -28,11 +29,9 @@ module _ (string nodes : List ℕ) (id k : ℕ) (is : k ≡ place_of (sought (le
   unfolding look entries_in
   looked = ap (first_block string) (first_alike nodes _ test any_level _ 0)
 
-  pub nowhere : id_at nodes k ≡ 0 → Finds string nodes id (record { there = false; start = 0; size = 0 })
+  pub nowhere : id_at nodes k ≡ 0 → Finds string nodes id None
   unfolding first_block
-  nowhere z =
-      let none_left = not_found nodes test (rw is at z) in
-      record { missing = λ f. looked ∙ ap (first_block string) none_left; found = λ f. absurd (false≢true f); inside = omega arith }
+  nowhere z = looked ∙ ap (first_block string) (not_found nodes test (rw is at z))
 
   module _ (some_id : id_at nodes k ≡ 0 → ⊥) (start size : ℕ) (start_is : start ≡ start_at nodes k) (size_is : size ≡ size_at nodes k) where
     passes : test (entry_at nodes k) ≡ true
@@ -44,13 +43,12 @@ module _ (string nodes : List ℕ) (id k : ℕ) (is : k ≡ place_of (sought (le
         let in-string = leb-true (start_at nodes k + size_at nodes k) (length string) ((and-eq-true_iff (inside (length string) (entry_at nodes k)) _).0 passes).0 in
         omega (arith, in-string)
 
-    pub there_it_is : Finds string nodes id (record { there = true; start = start; size = size })
+    pub there_it_is : Finds string nodes id (Some (record { start = start; size = size }))
     unfolding first_block block_in
     there_it_is =
         let here : look string nodes id ≡ some (take (size_at nodes k) (drop (start_at nodes k) string)) =
         looked ∙ rw is (ap (first_block string) (found nodes test (rw is at some_id))) in
         record {
-          missing = λ f. absurd (false≢true (sym f));
-          found = λ f. here ∙ (λ i. some (take (sym size_is i) (drop (sym start_is i) string)));
+          is = here ∙ (λ i. some (take (sym size_is i) (drop (sym start_is i) string)));
           inside = fits;
         }

@@ -1,5 +1,5 @@
 -- Copying one pending node after the other: what is settled from here on is what is settled from the start.
-use mathlib.Core.Bool.{true, false, false≢true}
+use Rattle.std.proofs.Common.{Option as Answer, Some, inl, inr, ◌⊎◌}
 use mathlib.Core.List.{List, [], ◌++◌, append_assoc, append-nil}
 use mathlib.Core.Option.{Option, none, some}
 use mathlib.Core.Path.{◌≡◌, refl, sym, ap, subst, ◌∙◌}
@@ -15,7 +15,7 @@ use Rattle.protocol.specs.Receiver.{Settled, too_long, left, copying, settle}
 use Rattle.copying.specs.declared.Place.{Place}
 use Rattle.copying.specs.declared.Waiting.{Waiting}
 use Rattle.copying.specs.declared.Copied.{Copied}
-use Rattle.copying.specs.Copying.{Finds, pile_of, settled_from, Appended, Zeroed, Copies}
+use Rattle.copying.specs.Copying.{Found, pile_of, settled_from, Appended, Zeroed, Copies}
 
 -- Clearing from the start on leaves zeros.
 pub cleared_all : (t : List ℕ) → clear_from t 0 ≡ replicate (length t) 0
@@ -57,20 +57,15 @@ module _ (string nodes : List ℕ) (size : ℕ) (before : List ℕ) (built waiti
 
   module _ (now : List ℕ) (at more : ℕ) (t : Turning now at more) where
     -- A way out with what is pending then.
-    stays : from at now more ≡ left (take at now) (pile_of more places) → Copies string nodes size before now built waiting places (record { fits = true; built = at; waiting = more })
-    stays e =
-        record {
-          fits = λ f. t.same ∙ e;
-          rest = λ f. t.rest;
-          within = λ f. (t.far, t.less);
-          over = λ f. absurd (false≢true (sym f));
-        }
+    stays : from at now more ≡ left (take at now) (pile_of more places)
+        → Copies string nodes size before now built waiting places (Some (record { built = at; waiting = more }))
+    stays e = record { fits = t.same ∙ e; rest = t.rest; within = (t.far, t.less) }
 
-    pub none_pending : more ≤ 0 → Copies string nodes size before now built waiting places (record { fits = true; built = at; waiting = 0 })
+    pub none_pending : more ≤ 0 → Copies string nodes size before now built waiting places (Some (record { built = at; waiting = 0 }))
     unfolding settle pile_of
     none_pending h =
         let zero_left : more ≡ 0 = omega (arith, h) in
-        subst (λ (k : ℕ). Copies string nodes size before now built waiting places (record { fits = true; built = at; waiting = k })) zero_left
+        subst (λ (k : ℕ). Copies string nodes size before now built waiting places (Some (record { built = at; waiting = k }))) zero_left
         (stays (ap (from at now) zero_left ∙ ap (λ (k : ℕ). left (take at now) (pile_of k places)) (sym zero_left)))
 
     -- The top of the pile.
@@ -85,7 +80,8 @@ module _ (string nodes : List ℕ) (size : ℕ) (before : List ℕ) (built waiti
       unfolding settle pile_of
       decided o e = ap (from at now) one_more ∙ rw (← top, e) refl
 
-      pub unknown : look string nodes id ≡ none → Copies string nodes size before now built waiting places (record { fits = true; built = at; waiting = more })
+      pub unknown : look string nodes id ≡ none
+          → Copies string nodes size before now built waiting places (Some (record { built = at; waiting = more }))
       unfolding copying pile_of
       unknown e = stays (decided none e ∙ ap (λ (k : ℕ). left (take at now) (pile_of k places)) (sym one_more))
 
@@ -124,55 +120,47 @@ module _ (string nodes : List ℕ) (size : ℕ) (before : List ℕ) (built waiti
                   ∙ ap (λ (x : List ℕ). settle (look string nodes) size x (pile_of (more - 1) places)) (sym taken)));
             }
 
-  -- The same of what was found at a place.
-  module _ (now : List ℕ) (at more : ℕ) (t : Turning now at more) (some_left : 0 < more) (id : ℕ) (top : id ≡ (get_or places (more - 1) empty).id)
-      (p : Place) (f : Finds string nodes id p) where
-    pub not_there : p.there ≡ false → (pending : ℕ) → pending ≡ more
-        → Copies string nodes size before now built waiting places (record { fits = true; built = at; waiting = pending })
-    not_there e pending same = rw same (unknown now at more t some_left id top (f.missing e))
+  -- The same of what was looked for.
+  module _ (now : List ℕ) (at more : ℕ) (t : Turning now at more) (some_left : 0 < more) (id : ℕ) (top : id ≡ (get_or places (more - 1) empty).id) where
+    pub not_there : look string nodes id ≡ none → (pending : ℕ) → pending ≡ more
+        → Copies string nodes size before now built waiting places (Some (record { built = at; waiting = pending }))
+    not_there e pending same = rw same (unknown now at more t some_left id top e)
 
-    pub too_much : p.there ≡ true → size - at < p.size → settled_from string nodes size before built waiting places ≡ too_long
-    too_much e h =
-        longer now at more t some_left id top (take p.size (drop p.start string)) (f.found e)
-        (let n = length_part string p.start p.size f.inside in omega (arith, n, h))
+    -- It was found at a place.
+    module _ (p : Place) (f : Found string nodes id p) where
+      pub too_much : size - at < p.size → settled_from string nodes size before built waiting places ≡ too_long
+      too_much h =
+          longer now at more t some_left id top (take p.size (drop p.start string)) f.is
+          (let n = length_part string p.start p.size f.inside in omega (arith, n, h))
 
-    pub copied : p.there ≡ true → p.size ≤ size - at → (mid bytes part post : List ℕ) → Appended mid bytes part
-        → mid ≡ take (length now - at) (drop at now) → bytes ≡ take (p.start + p.size - p.start) (drop p.start string)
-        → post ≡ drop (length now - at) (drop at now) → Turning (take at now ++ (part ++ post)) (at + p.size) (more - 1)
-    copied e h mid bytes part post a mid-is bytes-is Post-is =
-        let found = take p.size (drop p.start string) in
-        let n : length found ≡ p.size = length_part string p.start p.size f.inside in
-        let next = turning_next now at more t some_left id top found (f.found e) (omega (arith, n, h)) in
-        let d = length-drop at now in
-        let all : take (length now - at) (drop at now) ≡ drop at now = take_all (length now - at) (drop at now) (omega (arith, d)) in
-        let size_is : p.start + p.size - p.start ≡ p.size = omega arith in
-        let nothing : post ≡ [] = Post-is ∙ drop_of_length-le (drop at now) {i = length now - at} (omega (arith, d)) in
-        let taken : bytes ≡ found = bytes-is ∙ ap (λ (k : ℕ). take k (drop p.start string)) size_is in
-        let written : part ++ post ≡ found ++ drop (length found) (drop at now) =
-        ap (λ (x : List ℕ). part ++ x) nothing
-        ∙ (append-nil part ∙ (a.is ∙ (λ i. taken i ++ drop (length (taken i)) ((mid-is ∙ all) i)))) in
-        rw written
-        (subst (λ (k : ℕ). Turning (take at now ++ (found ++ drop (length found) (drop at now))) (at + k) (more - 1)) n next)
+      pub copied : p.size ≤ size - at → (mid bytes part post : List ℕ) → Appended mid bytes part
+          → mid ≡ take (length now - at) (drop at now) → bytes ≡ take (p.start + p.size - p.start) (drop p.start string)
+          → post ≡ drop (length now - at) (drop at now) → Turning (take at now ++ (part ++ post)) (at + p.size) (more - 1)
+      copied h mid bytes part post a mid-is bytes-is Post-is =
+          let found = take p.size (drop p.start string) in
+          let n : length found ≡ p.size = length_part string p.start p.size f.inside in
+          let next = turning_next now at more t some_left id top found f.is (omega (arith, n, h)) in
+          let d = length-drop at now in
+          let all : take (length now - at) (drop at now) ≡ drop at now = take_all (length now - at) (drop at now) (omega (arith, d)) in
+          let size_is : p.start + p.size - p.start ≡ p.size = omega arith in
+          let nothing : post ≡ [] = Post-is ∙ drop_of_length-le (drop at now) {i = length now - at} (omega (arith, d)) in
+          let taken : bytes ≡ found = bytes-is ∙ ap (λ (k : ℕ). take k (drop p.start string)) size_is in
+          let written : part ++ post ≡ found ++ drop (length found) (drop at now) =
+          ap (λ (x : List ℕ). part ++ x) nothing
+          ∙ (append-nil part ∙ (a.is ∙ (λ i. taken i ++ drop (length (taken i)) ((mid-is ∙ all) i)))) in
+          rw written
+          (subst (λ (k : ℕ). Turning (take at now ++ (found ++ drop (length found) (drop at now))) (at + k) (more - 1)) n next)
 
   -- A way out with the output zeroed.
-  pub zeroed : (now after : List ℕ) (r : Copied) → settled_from string nodes size before built waiting places ≡ too_long → length now ≡ length before
-      → Zeroed now after r → Copies string nodes size before after built waiting places r
-  zeroed now after r e long z =
-      record {
-        fits = λ f. absurd (false≢true (sym z.answer ∙ f));
-        rest = λ f. absurd (false≢true (sym z.answer ∙ f));
-        within = λ f. absurd (false≢true (sym z.answer ∙ f));
-        over = λ f. (e, z.zeros ∙ ap (λ (k : ℕ). replicate k 0) long);
-      }
+  pub zeroed : (now after : List ℕ) (r : Answer Copied) → settled_from string nodes size before built waiting places ≡ too_long
+      → length now ≡ length before → Zeroed now after r → Copies string nodes size before after built waiting places r
+  zeroed now after r e long z = rw z.answer (e, z.zeros ∙ ap (λ (k : ℕ). replicate k 0) long)
 
-  pub short_output : length before < size → settled_from string nodes size before built waiting places ≡ too_long
+  pub no_room : (length before < size)
+      ⊎ (((size ≤ length before) × (size < built))
+      ⊎ ((size ≤ length before) × (built ≤ size) × (128 < waiting)))
+      → settled_from string nodes size before built waiting places ≡ too_long
   unfolding settled_from
-  short_output h = rw (lt-leb size (length before) h) refl
-
-  pub built_more : size ≤ length before → size < built → settled_from string nodes size before built waiting places ≡ too_long
-  unfolding settled_from
-  built_more k h = rw (le-leb size (length before) k, lt-leb built size h) refl
-
-  pub many_waiting : size ≤ length before → built ≤ size → 128 < waiting → settled_from string nodes size before built waiting places ≡ too_long
-  unfolding settled_from
-  many_waiting k l h = rw (le-leb size (length before) k, le-leb built size l, lt-leb waiting 128 h) refl
+  no_room (inl short) = rw (lt-leb size (length before) short) refl
+  no_room (inr (inl more)) = rw (le-leb size (length before) more.0, lt-leb built size more.1) refl
+  no_room (inr (inr many)) = rw (le-leb size (length before) many.0, le-leb built size many.1, lt-leb waiting 128 many.2) refl

@@ -5,15 +5,11 @@ ghost use Rattle.copying.specs.Copying.{Zeroed, Copies};
 use super::{Copied, Waiting, find, output};
 
 // Zeroes the output: it would have got too long.
-pub fn too_long(output: &mut [u8]) -> Copied
+pub fn too_long(output: &mut [u8]) -> Option<Copied>
     ensures { Zeroed output.old output.new result }
 {
     rows::clear(output, 0);
-    Copied {
-        fits: false,
-        built: 0,
-        waiting: 0,
-    }
+    None
 }
 
 // Copies while the last pending node is an own one.
@@ -25,21 +21,19 @@ pub fn copy_known(
     built: usize,
     waiting: usize,
     pile: [Waiting; 128],
-) -> Copied
+) -> Option<Copied>
     requires { (size ≤ length output.old) × ((built ≤ size) × (waiting ≤ 128)) }
     ensures { Copies string.now nodes.now size output.old output.new built waiting pile result }
 {
     let mut at = built;
     for below in (0..waiting).rev() {
         let top = pile[below];
-        let place = find(string, nodes, top.id);
-        if !place.there {
-            return Copied {
-                fits: true,
+        let Some(place) = find(string, nodes, top.id) else {
+            return Some(Copied {
                 built: at,
                 waiting: below + 1,
-            };
-        }
+            });
+        };
         let start = place.start;
         let more = place.size;
         if size - at < more {
@@ -48,9 +42,8 @@ pub fn copy_known(
         output::append(&mut output[at..], &string[start..start + more]);
         at += more;
     }
-    Copied {
-        fits: true,
+    Some(Copied {
         built: at,
         waiting: 0,
-    }
+    })
 }

@@ -1,3 +1,4 @@
 -- The laws behind the crossed nodes.
 mod Crossing
+pub mod Small
 pub mod Exact

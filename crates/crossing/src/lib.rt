@@ -3,17 +3,17 @@
 
 ghost use Rattle.std.specs.Prelude.{◌++◌, ◌≡◌, ◌+◌, ◌*◌, ◌/◌, ◌≤◌, ◌<◌, length, drop};
 ghost use Rattle.node_table.specs.Entries.{entry_at};
+ghost use Rattle.refusal.specs.Answer.{answer_of};
 ghost use Rattle.crossing.specs.Crossing.{crosses, crossing, crossing_bytes, Crossed};
 ghost use Rattle.crossing.specs.Steps.{Noted};
+
+use refusal::Refusal;
 
 // The size in bytes of an entry of a node table.
 const ENTRY: usize = 16;
 
 // The size in bytes of a pair, two rows.
 const PAIR: usize = 16;
-
-// What an answer adds to the number of nodes.
-const FOUND: u64 = 4294967296;
 
 // A range of a string of so many bytes, which ends by the string's end.
 #[derive(Clone, Copy)]
@@ -87,19 +87,25 @@ fn write(nodes: &[u8], span: Span, table: &mut [u8])
 }
 
 // Writes the nodes that share a byte with the range into the table, two rows each: the node's place in the node table, and its
-// parent's. The answer is 2^32 and how many there are; or 21 where the range does not lie in the string, or 22 where the table
-// has no room for them all, and then the table is as it was.
-pub fn crossed(string: &[u8], nodes: &[u8], start: u64, size: u64, table: &mut [u8]) -> u64
-    ensures { Crossed (length string.now) nodes.now start size table.old table.new result }
+// parent's. The answer is how many there are. Refused are a range that does not lie in the string, and then a table without room for
+// them all; and then the table is as it was.
+pub fn crossed(
+    string: &[u8],
+    nodes: &[u8],
+    start: u64,
+    size: u64,
+    table: &mut [u8],
+) -> Result<usize, Refusal>
+    ensures { Crossed (length string.now) nodes.now start size table.old table.new (answer_of result) }
 {
     let n = string.len();
     if (n as u64) < start {
-        return 21;
+        return Err(Refusal::Range);
     }
     // By what is left of the string: the sum of start and size may be 2^64 and more.
     let left = n as u64 - start;
     if left < size {
-        return 21;
+        return Err(Refusal::Range);
     }
     let span = Span {
         string: n,
@@ -108,8 +114,8 @@ pub fn crossed(string: &[u8], nodes: &[u8], start: u64, size: u64, table: &mut [
     };
     let found = count(nodes, span);
     if table.len() / PAIR < found {
-        return 22;
+        return Err(Refusal::Crossed);
     }
     write(nodes, span, table);
-    FOUND + found as u64
+    Ok(found)
 }

@@ -16,7 +16,6 @@ use Rattle.protocol.specs.State.{Pending, State, going, over}
 use Rattle.protocol.specs.Receiver.{Settled, too_long, left, copying, settle, output_with, conclude, Result, result, refused, handed, waiting, ends}
 use Rattle.copying.specs.declared.Waiting.{Waiting}
 use Rattle.copying.specs.Copying.{pile_of, settled_from}
-use Rattle.handover.specs.declared.Outcome.{Outcome}
 use Rattle.handover.specs.Handover.{whole, answer_of, output_of, Concluded}
 
 -- What copying built, from what it says.
@@ -87,8 +86,8 @@ pending_left s m shingles size root taken b zero places output h = absurd (omega
 pending_left s m shingles size root taken b (suc n) places output h = (refl, refl)
 
 -- `before` is the output as concluding found it. The call may have put bytes in front of place `built` before.
-module _ {string nodes : List ℕ} {size root : ℕ} {before after : List ℕ} {built waits : ℕ} {places : List Waiting} {r : Outcome}
-    (c : Concluded string nodes size root before after built waits places r) (s : State) (m : Lent) (shingles : List ℕ) (taken : ℕ)
+module _ {string nodes : List ℕ} {size root : ℕ} {before after : List ℕ} {built waits : ℕ} {places : List Waiting} {number end remaining : ℕ}
+    (c : Concluded string nodes size root before after built waits places number end remaining) (s : State) (m : Lent) (shingles : List ℕ) (taken : ℕ)
     (behind : drop built before ≡ drop built m.output) (long : length before ≡ length m.output) where
   abbrev Says : Settled → Type 0
   Says x = settled_from string nodes size before built waits places ≡ x
@@ -97,19 +96,19 @@ module _ {string nodes : List ℕ} {size root : ℕ} {before after : List ℕ} {
   concluded = conclude s m shingles size root taken (settled_from string nodes size before built waits places)
 
   -- A no: the session is over, and the output is zero.
-  pub refuses : 0 < r.answer → r.answer < 2 ^ 32 → concluded ≡ result (refused r.answer) (over s) (with_output m after)
+  pub refuses : 0 < number → number < 2 ^ 32 → concluded ≡ result (refused number) (over s) (with_output m after)
   unfolding conclude answer_of output_of ends whole
   refuses above small = go (settled_from string nodes size before built waits places) refl c.answer c.output
     where
       zeros : replicate {A = ℕ} (length m.output) 0 ≡ replicate (length before) 0
       zeros = ap (λ (k : ℕ). replicate k 0) (sym long)
 
-      no_one : (k : ℕ) → r.answer ≡ k → after ≡ replicate (length before) 0
-          → ends k s m ≡ result (refused r.answer) (over s) (with_output m after)
+      no_one : (k : ℕ) → number ≡ k → after ≡ replicate (length before) 0
+          → ends k s m ≡ result (refused number) (over s) (with_output m after)
       no_one k e f = λ j. result (refused (sym e j)) (over s) (with_output m ((zeros ∙ sym f) j))
 
-      go : (x : Settled) → Says x → r.answer ≡ answer_of size root x → after ≡ output_of size root x before
-          → conclude s m shingles size root taken x ≡ result (refused r.answer) (over s) (with_output m after)
+      go : (x : Settled) → Says x → number ≡ answer_of size root x → after ≡ output_of size root x before
+          → conclude s m shingles size root taken x ≡ result (refused number) (over s) (with_output m after)
       go too_long e a o = no_one 18 a o
       go (left b []) e a o = either (whole size root b)
           (λ t. absurd (omega (arith, small, rw t at a)))
@@ -117,13 +116,13 @@ module _ {string nodes : List ℕ} {size root : ℕ} {before after : List ℕ} {
       go (left b (x ∷ xs)) e a o = absurd (omega (arith, above, a))
 
   -- The string is handed over.
-  pub hands : 2 ^ 32 ≤ r.answer
-      → (r.answer ≡ 2 ^ 32 + size) × (concluded ≡ result (handed size) (over s) (with_shingles (with_output m after) shingles))
+  pub hands : 2 ^ 32 ≤ number
+      → (number ≡ 2 ^ 32 + size) × (concluded ≡ result (handed size) (over s) (with_shingles (with_output m after) shingles))
   unfolding conclude answer_of output_of whole is_left built_in
   hands large = go (settled_from string nodes size before built waits places) refl c.answer c.output
     where
-      go : (x : Settled) → Says x → r.answer ≡ answer_of size root x → after ≡ output_of size root x before
-          → (r.answer ≡ 2 ^ 32 + size)
+      go : (x : Settled) → Says x → number ≡ answer_of size root x → after ≡ output_of size root x before
+          → (number ≡ 2 ^ 32 + size)
           × (conclude s m shingles size root taken x ≡ result (handed size) (over s) (with_shingles (with_output m after) shingles))
       go too_long e a o = absurd (omega (arith, large, a))
       go (left b []) e a o = either (whole size root b)
@@ -136,17 +135,17 @@ module _ {string nodes : List ℕ} {size root : ℕ} {before after : List ℕ} {
       go (left b (x ∷ xs)) e a o = absurd (omega (arith, large, a))
 
   -- The session goes on, with what is built and pending then.
-  pub goes_on : length after ≡ length before → r.answer ≡ 0
-      → concluded ≡ result waiting (going s size root r.built taken (pile_of r.waiting places)) (with_shingles (with_output m after) shingles)
+  pub goes_on : length after ≡ length before → number ≡ 0
+      → concluded ≡ result waiting (going s size root end taken (pile_of remaining places)) (with_shingles (with_output m after) shingles)
   unfolding is_left built_in
   goes_on same e =
-      let b : List ℕ = take r.built after in
-      let here : settled_from string nodes size before built waits places ≡ left b (pile_of r.waiting places) = c.going e in
+      let b : List ℕ = take end after in
+      let here : settled_from string nodes size before built waits places ≡ left b (pile_of remaining places) = c.going e in
       let grown = ended_within string nodes size before built waits places (ap is_left here) in
       let more : built ≤ length b = omega (arith, grown.1, ap (λ (x : Settled). length (built_in x)) here) in
-      let front : length b ≡ r.built = length-take-le r.built after (omega (arith, (c.within e).0, grown.0, same)) in
-      let on = pending_left s m shingles size root taken b r.waiting places before (c.within e).1 in
+      let front : length b ≡ end = length-take-le end after (omega (arith, (c.within e).0, grown.0, same)) in
+      let on = pending_left s m shingles size root taken b remaining places before (c.within e).1 in
       let is : output_with b m.output ≡ after =
       sym (same_behind b before m.output built more behind) ∙ sym (c.output ∙ (ap (λ (x : Settled). output_of size root x before) here ∙ on.1)) in
       ap (conclude s m shingles size root taken) here
-      ∙ (on.0 ∙ λ j. result waiting (going s size root (front j) taken (pile_of r.waiting places)) (with_shingles (with_output m (is j)) shingles))
+      ∙ (on.0 ∙ λ j. result waiting (going s size root (front j) taken (pile_of remaining places)) (with_shingles (with_output m (is j)) shingles))

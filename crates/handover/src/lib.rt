@@ -1,41 +1,22 @@
 // What an accepted message comes to: own nodes are copied, and a string that is whole is handed over.
 #![tactic(auto)]
 
-ghost use Rattle.handover.specs.Handover.{Refused, Concluded};
+ghost use Rattle.handover.specs.Handover.{ComesTo};
 
 use copying::Waiting;
+use refusal::Refusal;
 
-// A string that is handed over is answered by this and its length.
-const HANDED_OVER: u64 = 4294967296;
-
-// The questions that copying and handing over are asked.
-const FITS: u64 = 18;
-
-const IS_ANNOUNCED: u64 = 19;
-
-// The answer is 0 while nodes are pending, 2^32 and the string's length when it is handed over, else the number of the question that
-// refuses; then so many bytes that are built, and so many pending nodes.
+// What an accepted message comes to: nodes are pending, so many and behind so many bytes that are built; or the string is whole, and is
+// handed over.
 #[derive(Clone, Copy)]
-pub struct Outcome {
-    pub answer: u64,
-    pub built: usize,
-    pub waiting: usize,
+pub enum Outcome {
+    Going { built: usize, waiting: usize },
+    Whole { length: usize },
 }
 
-// Zeroes the output: a question refuses.
-fn refuse(output: &mut [u8], question: u64) -> Outcome
-    ensures { Refused output.old output.new question result }
-{
-    rows::clear(output, 0);
-    Outcome {
-        answer: question,
-        built: 0,
-        waiting: 0,
-    }
-}
-
-// Copies own nodes while the last pending node is one, and asks 18; then 19, if none is pending any more: the id of the output's first
-// bytes is worked out afresh. A no zeroes the output.
+// Copies own nodes while the last pending node is one, and asks whether the output stays within the announced length; then, if none is
+// pending any more, whether the string is the announced one: the id of the output's first bytes is worked out afresh. A no zeroes the
+// output.
 pub fn conclude(
     string: &[u8],
     nodes: &[u8],
@@ -45,32 +26,22 @@ pub fn conclude(
     built: usize,
     waiting: usize,
     pile: [Waiting; 128],
-) -> Outcome
-    ensures { Concluded string.now nodes.now size root output.old output.new built waiting pile result }
+) -> Result<Outcome, Refusal>
+    ensures { ComesTo string.now nodes.now size root output.old output.new built waiting pile result }
 {
-    let copied = copying::settle(string, nodes, size, output, built, waiting, pile);
-    if !copied.fits {
-        return refuse(output, FITS);
-    }
+    let Some(copied) = copying::settle(string, nodes, size, output, built, waiting, pile) else {
+        return Err(Refusal::Overflow);
+    };
     let end = copied.built;
-    let left = copied.waiting;
-    if 0 < left {
-        return Outcome {
-            answer: 0,
+    if 0 < copied.waiting {
+        return Ok(Outcome::Going {
             built: end,
-            waiting: left,
-        };
+            waiting: copied.waiting,
+        });
     }
-    if end != size {
-        return refuse(output, IS_ANNOUNCED);
+    if end != size || fnv::block_id(&output[..end]) != root {
+        rows::clear(output, 0);
+        return Err(Refusal::Id);
     }
-    let answer = HANDED_OVER + end as u64;
-    if fnv::block_id(&output[..end]) != root {
-        return refuse(output, IS_ANNOUNCED);
-    }
-    Outcome {
-        answer,
-        built: end,
-        waiting: 0,
-    }
+    Ok(Outcome::Whole { length: end })
 }

@@ -1,186 +1,117 @@
 -- What was read and said is what the message is, and whether it fits is question 11.
-use mathlib.Core.Bool.{Bool, true, false, ◌&&◌}
-use mathlib.Core.List.{List}
-use mathlib.Core.Option.{none, some}
-use mathlib.Core.Path.{◌≡◌, refl, sym, ap, ◌∙◌}
-use Prim.Native.Nat.{ℕ, ◌≤◌, ◌<◌}
-use native.Mathlib.Omega.{arith}
-use native.Mathlib.Decide.{dec_lt}
-use borrow.Author.Tests.{eq-eqb, eqb-true, leb-true}
-use lib.Dec.{leb, eqb}
-use lib.ListN.{length, drop}
-use Rattle.tree.specs.Questions.{within}
-use Rattle.shingle.proofs.PairOrder.{and_true}
+use Rattle.std.proofs.Common.{None, Some, Result, Ok, Err, Bool, true, false, List, ◌≡◌, refl, sym, ap, subst, ◌∙◌, ℕ, ◌≤◌, ◌<◌, eq-eqb, eqb, length, drop}
+use Rattle.std.proofs.Math.Bool.{false≢true, and-true, and-false}
+use Rattle.std.proofs.Math.Option.{none, some}
+use Rattle.std.specs.Result.{IfOk, MatchResult}
 use Rattle.message.specs.Words.{link_words, reference_word}
 use Rattle.message.specs.Fields.{values_of, many_from, text_from}
-use Rattle.message.specs.Messages.{Msg, opening_query, node_query, opening, composition, literal, type_of, cell_values, parse}
+use Rattle.message.specs.Messages.{Msg, opening_query, node_query, type_of, opening, composition, literal, cell_values, parse}
 use Rattle.message.specs.Reading.{stated_by, Reads}
 use Rattle.message.specs.Parts.{cells_in, references_in, bytes_in}
 use Rattle.message.specs.declared.Message.{Message}
-use Rattle.message.specs.declared.Message.TheVariants.{Bad, OpeningQuery, NodeQuery, Opening, Composition, Literal, NoNode}
-use Rattle.protocol.specs.State.{running, outstanding}
+use Rattle.message.specs.declared.Message.TheVariants.{OpeningQuery, NodeQuery, Opening, Composition, Literal, NoNode}
+use Rattle.refusal.specs.declared.Refusal.{Refusal}
+use Rattle.refusal.specs.declared.Refusal.TheVariants.{Unexpected}
+use Rattle.protocol.specs.State.{outstanding}
 use Rattle.protocol.specs.Receiver.{session_of, level_of, id_of, fits, matches}
 use Rattle.state.specs.declared.Receiver.{Receiver}
 use Rattle.state.specs.declared.Outstanding.{Outstanding}
+use Rattle.state.specs.declared.Outstanding.TheVariants as query
 use Rattle.state.specs.Receivers.{state_of}
-use Rattle.state.specs.Asking.{query_in, Asks}
+use Rattle.state.specs.Asking.{query_in, asking, AsksFor}
 use Rattle.state.proofs.Asking.{waits}
+use Rattle.heard.specs.declared.Reply.{Reply}
 use Rattle.heard.specs.declared.Said.{Said}
-use Rattle.heard.specs.Heard.{said_of_message, announced_of_message, fitting, given, message_in, NodeReply, OpeningReply}
-
-and_false : (b : Bool) → b && false ≡ false
-and_false true = refl
-and_false false = refl
+use Rattle.heard.specs.declared.Said.TheVariants as said
+use Rattle.heard.specs.Heard.{said_of_message, fitting, given, message_in, Hears}
 
 module _ (message : List ℕ) where
   -- A message that is not well formed, and one that is.
-  pub not_formed : (answer : Message) → Reads message answer → (said_of_message answer).kind ≡ 10 → parse message ≡ none
-  not_formed Bad r e = sym r.message
-  not_formed (OpeningQuery n) r e = absurd (omega (arith, e))
-  not_formed (NodeQuery n l i) r e = absurd (omega (arith, e))
-  not_formed (Opening n rule w p L M q len root at) r e = absurd (omega (arith, e))
-  not_formed (Composition n l i numbered x at count) r e = absurd (omega (arith, e))
-  not_formed (Literal n l i at count) r e = absurd (omega (arith, e))
-  not_formed (NoNode n l i) r e = absurd (omega (arith, e))
+  pub not_formed : Reads message None → parse message ≡ none
+  not_formed r = sym r.message
 
   known : (m : Msg) → some m ≡ parse message → (message_in message ≡ m) × (parse message ≡ some (message_in message))
   unfolding given
   known m e = let is : message_in message ≡ m = ap given (sym e) in (is, sym e ∙ ap some (sym is))
 
-  pub formed : (answer : Message) → Reads message answer → ((said_of_message answer).kind ≡ 10 → ⊥) → parse message ≡ some (message_in message)
-  formed Bad r fails = absurd (fails refl)
-  formed (OpeningQuery n) r fails = (known _ r.message).1
-  formed (NodeQuery n l i) r fails = (known _ r.message).1
-  formed (Opening n rule w p L M q len root at) r fails = (known _ r.message).1
-  formed (Composition n l i numbered x at count) r fails = (known _ r.message).1
-  formed (Literal n l i at count) r fails = (known _ r.message).1
-  formed (NoNode n l i) r fails = (known _ r.message).1
-
-  pub formed_said : (answer : Message) (m : Said) → Reads message answer → m ≡ said_of_message answer → (m.kind ≡ 10 → ⊥)
-      → parse message ≡ some (message_in message)
-  formed_said answer m r is well = formed answer r (λ z. well (ap (λ (x : Said). x.kind) is ∙ z))
+  pub formed : (answer : Message) → Reads message (Some answer) → parse message ≡ some (message_in message)
+  formed (OpeningQuery n) r = (known _ r.message).1
+  formed (NodeQuery n l i) r = (known _ r.message).1
+  formed (Opening n rule w p L M q len root at) r = (known _ r.message).1
+  formed (Composition n l i trail at count) r = (known _ r.message).1
+  formed (Literal n l i at count) r = (known _ r.message).1
+  formed (NoNode n l i) r = (known _ r.message).1
 
   -- What each kind of message is.
-  pub opening_heard : (answer : Message) → Reads message answer → (said_of_message answer).kind ≡ 3 → OpeningReply message (announced_of_message answer)
-  unfolding cells_in
-  opening_heard Bad r e = absurd (omega (arith, e))
-  opening_heard (OpeningQuery n) r e = absurd (omega (arith, e))
-  opening_heard (NodeQuery n l i) r e = absurd (omega (arith, e))
-  opening_heard (Opening n rule w p L M q len root at) r e =
+  each_heard : (answer : Message) → Reads message (Some answer) → IfOk (said_of_message answer) (Hears message)
+  unfolding cells_in references_in bytes_in
+  each_heard (OpeningQuery n) r = tt
+  each_heard (NodeQuery n l i) r = tt
+  each_heard (Opening n rule w p L M q len root at) r =
       let m = opening n rule w p L M q len root in
       let is = known (m (values_of (cell_values q) (drop at (link_words message)))) r.message in
-      record { session = n; is = sym r.message ∙ ap (λ (x : Msg). some (m (cells_in x))) (sym is.0) }
-  opening_heard (Composition n l i numbered x at count) r e = absurd (omega (arith, e))
-  opening_heard (Literal n l i at count) r e = absurd (omega (arith, e))
-  opening_heard (NoNode n l i) r e = absurd (omega (arith, e))
+      sym r.message ∙ ap (λ (x : Msg). some (m (cells_in x))) (sym is.0)
+  each_heard (Composition n l i trail at count) r =
+      let is = (known (composition n l i (stated_by trail) (many_from reference_word (drop at (link_words message)))) r.message).0 in (
+        sym r.message ∙ ap (λ (m : Msg). some (composition n l i (stated_by trail) (references_in m))) (sym is),
+        r.counted ∙ ap (λ (m : Msg). length (references_in m)) (sym is),
+      )
+  each_heard (Literal n l i at count) r =
+      let is = (known (literal n l i (text_from (drop at (link_words message)))) r.message).0 in (
+        sym r.message ∙ ap (λ (m : Msg). some (literal n l i (bytes_in m))) (sym is),
+        r.counted ∙ ap (λ (m : Msg). length (bytes_in m)) (sym is),
+      )
+  each_heard (NoNode n l i) r = sym r.message
 
-  pub node_heard : (answer : Message) → Reads message answer → 4 ≤ (said_of_message answer).kind → (said_of_message answer).kind ≤ 6 → NodeReply message (said_of_message answer)
-  unfolding references_in bytes_in
-  node_heard Bad r low high = absurd (omega (arith, high))
-  node_heard (OpeningQuery n) r low high = absurd (omega (arith, high))
-  node_heard (NodeQuery n l i) r low high = absurd (omega (arith, high))
-  node_heard (Opening n rule w p L M q len root at) r low high = absurd (omega (arith, low))
-  node_heard (Composition n l i numbered x at count) r low high =
-      let is = (known (composition n l i (stated_by numbered x) (many_from reference_word (drop at (link_words message)))) r.message).0 in
-      record {
-        low = low;
-        high = high;
-        composed = λ e. (
-          sym r.message ∙ ap (λ (m : Msg). some (composition n l i (stated_by numbered x) (references_in m))) (sym is),
-          r.counted ∙ ap (λ (m : Msg). length (references_in m)) (sym is),
-        );
-        bytes = λ e. absurd (omega (arith, e));
-        missing = λ e. absurd (omega (arith, e));
-      }
-  node_heard (Literal n l i at count) r low high =
-      let is = (known (literal n l i (text_from (drop at (link_words message)))) r.message).0 in
-      record {
-        low = low;
-        high = high;
-        composed = λ e. absurd (omega (arith, e));
-        bytes = λ e. (
-          sym r.message ∙ ap (λ (m : Msg). some (literal n l i (bytes_in m))) (sym is),
-          r.counted ∙ ap (λ (m : Msg). length (bytes_in m)) (sym is),
-        );
-        missing = λ e. absurd (omega (arith, e));
-      }
-  node_heard (NoNode n l i) r low high =
-      record {
-        low = low;
-        high = high;
-        composed = λ e. absurd (omega (arith, e));
-        bytes = λ e. absurd (omega (arith, e));
-        missing = λ e. sym r.message;
-      }
+  pub heard : (answer : Message) (x : Said) → Reads message (Some answer) → Ok x ≡ said_of_message answer → Hears message x
+  heard answer x r e = subst (λ (x : Result Said Refusal). IfOk x (Hears message)) (sym e) (each_heard answer r)
 
-  -- Question 11: by the outstanding query, which is the opening's or a node's.
-  fits_opening : (answer : Message) → Reads message answer → (session : ℕ) → ((said_of_message answer).kind ≡ 10 → ⊥)
-      → fits (opening_query session) (message_in message) ≡ (eqb (said_of_message answer).session session && eqb (said_of_message answer).kind 3)
-  unfolding fits session_of type_of
-  fits_opening Bad r session fails = absurd (fails refl)
-  fits_opening (OpeningQuery n) r session fails = ap (fits (opening_query session)) (known _ r.message).0 ∙ (and_false (eqb n session) ∙ sym (and_false (eqb 0 session)))
-  fits_opening (NodeQuery n l i) r session fails = ap (fits (opening_query session)) (known _ r.message).0 ∙ (and_false (eqb n session) ∙ sym (and_false (eqb 0 session)))
-  fits_opening (Opening n rule w p L M q len root at) r session fails = ap (fits (opening_query session)) (known _ r.message).0
-  fits_opening (Composition n l i numbered x at count) r session fails = ap (fits (opening_query session)) (known _ r.message).0
-  fits_opening (Literal n l i at count) r session fails = ap (fits (opening_query session)) (known _ r.message).0
-  fits_opening (NoNode n l i) r session fails = ap (fits (opening_query session)) (known _ r.message).0
+  -- Question 11: what was said fits the query where the message matches it, and a query matches none.
+  abbrev Fits : Msg → Outstanding → ℕ → Result Said Refusal → Type 0
+  Fits m asked n answer =
+      MatchResult answer (λ x. fits (asking n asked) m ≡ fitting asked n x) (λ question. (question ≡ Unexpected) × (fits (asking n asked) m ≡ false))
 
-  fits_node : (answer : Message) → Reads message answer → (session level id : ℕ) → ((said_of_message answer).kind ≡ 10 → ⊥)
-      → fits (node_query session level id) (message_in message)
-      ≡ (eqb (said_of_message answer).session session
-      && (within 4 6 (said_of_message answer).kind && (eqb (said_of_message answer).level level && eqb (said_of_message answer).id id)))
+  each_fits : (asked : Outstanding) (n : ℕ) (answer : Message) → Reads message (Some answer) → Fits (message_in message) asked n (said_of_message answer)
   unfolding fits session_of level_of id_of type_of
-  fits_node Bad r session level id fails = absurd (fails refl)
-  fits_node (OpeningQuery n) r session level id fails = ap (fits (node_query session level id)) (known _ r.message).0 ∙ (and_false (eqb n session) ∙ sym (and_false (eqb 0 session)))
-  fits_node (NodeQuery n l i) r session level id fails = ap (fits (node_query session level id)) (known _ r.message).0 ∙ (and_false (eqb n session) ∙ sym (and_false (eqb 0 session)))
-  fits_node (Opening n rule w p L M q len root at) r session level id fails = ap (fits (node_query session level id)) (known _ r.message).0
-  fits_node (Composition n l i numbered x at count) r session level id fails = ap (fits (node_query session level id)) (known _ r.message).0
-  fits_node (Literal n l i at count) r session level id fails = ap (fits (node_query session level id)) (known _ r.message).0
-  fits_node (NoNode n l i) r session level id fails = ap (fits (node_query session level id)) (known _ r.message).0
+  each_fits query.Opening n (OpeningQuery k) r = (refl, ap (fits (opening_query n)) (known _ r.message).0 ∙ and-false (eqb k n))
+  each_fits query.Opening n (NodeQuery k l i) r = (refl, ap (fits (opening_query n)) (known _ r.message).0 ∙ and-false (eqb k n))
+  each_fits query.Opening n (Opening k rule w p L M q len root at) r = ap (fits (opening_query n)) (known _ r.message).0 ∙ and-true (eqb k n)
+  each_fits query.Opening n (Composition k l i trail at count) r = ap (fits (opening_query n)) (known _ r.message).0 ∙ and-false (eqb k n)
+  each_fits query.Opening n (Literal k l i at count) r = ap (fits (opening_query n)) (known _ r.message).0 ∙ and-false (eqb k n)
+  each_fits query.Opening n (NoNode k l i) r = ap (fits (opening_query n)) (known _ r.message).0 ∙ and-false (eqb k n)
+  each_fits (query.Node level id) n (OpeningQuery k) r = (refl, ap (fits (node_query n level id)) (known _ r.message).0 ∙ and-false (eqb k n))
+  each_fits (query.Node level id) n (NodeQuery k l i) r = (refl, ap (fits (node_query n level id)) (known _ r.message).0 ∙ and-false (eqb k n))
+  each_fits (query.Node level id) n (Opening k rule w p L M q len root at) r =
+      ap (fits (node_query n level id)) (known _ r.message).0 ∙ and-false (eqb k n)
+  each_fits (query.Node level id) n (Composition k l i trail at count) r = ap (fits (node_query n level id)) (known _ r.message).0
+  each_fits (query.Node level id) n (Literal k l i at count) r = ap (fits (node_query n level id)) (known _ r.message).0
+  each_fits (query.Node level id) n (NoNode k l i) r = ap (fits (node_query n level id)) (known _ r.message).0
 
-module _ {s : Receiver} {asked : Outstanding} (a : Asks s asked) (some-asked : asked.kind ≡ 0 → ⊥) where
-  one_or_two : {C : Type 0} → (asked.kind ≡ 1 → C) → (asked.kind ≡ 2 → C) → C
-  one_or_two one two = elim (dec_lt asked.kind 2) [
-    | yes h ↦ one (omega (arith, h, some-asked))
-    | no h ↦ two (omega (arith, h, a.kinds))
-  ]
+  module _ {s : Receiver} {asked : Outstanding} (a : AsksFor s asked) (answer : Message) (r : Reads message (Some answer)) where
+    told : {x : Result Said Refusal} → x ≡ said_of_message answer → Fits (message_in message) asked s.session x
+    told e = subst (Fits (message_in message) asked s.session) (sym e) (each_fits asked s.session answer r)
 
-  pub still_runs : running (state_of s) ≡ true
-  still_runs = go (running (state_of s)) refl
-    where
-      go : (t : Bool) → running (state_of s) ≡ t → running (state_of s) ≡ true
-      go true e = e
-      go false e = absurd (some-asked (a.stopped e))
+    matched : matches (outstanding (state_of s)) (message_in message) ≡ fits (asking s.session asked) (message_in message)
+    unfolding matches
+    matched = rw a.is refl
 
-  -- Fitting is matching.
-  pub fitting_is : (message : List ℕ) (answer : Message) → Reads message answer → ((said_of_message answer).kind ≡ 10 → ⊥)
-      → matches (outstanding (state_of s)) (message_in message) ≡ fitting asked s.session (said_of_message answer)
-  unfolding matches fitting
-  fitting_is message answer r fails =
-      one_or_two
-      (λ e. rw (a.opening e, eq-eqb _ 1 e) (fits_opening message answer r s.session fails))
-      (λ e. rw (a.node e, e) (fits_node message answer r s.session asked.level asked.id fails))
+    pub fits_said : (x : Said) {t : Bool} → Ok x ≡ said_of_message answer → t ≡ fitting asked s.session x
+        → matches (outstanding (state_of s)) (message_in message) ≡ t
+    fits_said x e f = matched ∙ (told e ∙ sym f)
 
-  -- A node reply that fits answers the query of a pending node.
-  pub node_fits : (m : Said) → fitting asked s.session m ≡ true → (m.kind ≡ 3 → ⊥) → (4 ≤ m.kind) × (m.kind ≤ 6) × (asked.kind ≡ 2)
-  unfolding fitting
-  node_fits m e other =
-      one_or_two
-      (λ k. absurd (other (eqb-true m.kind 3 (and_true (eqb m.session s.session) _ (rw (eq-eqb _ 1 k) at e)).1)))
-      (λ k.
-      let both = (and_true (within 4 6 m.kind) _ (and_true (eqb m.session s.session) _ (rw k at e)).1).0 in
-      let range = and_true (leb 4 m.kind) (leb m.kind 6) both in
-      (leb-true 4 _ range.0, leb-true _ 6 range.1, k))
+    pub fits_none : (question : Refusal) → Err question ≡ said_of_message answer
+        → (question ≡ Unexpected) × (matches (outstanding (state_of s)) (message_in message) ≡ false)
+    fits_none question e = let both = told e in (both.0, matched ∙ both.1)
 
-  pub node_waits : asked.kind ≡ 2 → (0 < s.waiting) × (s.waiting ≤ 128)
-  unfolding query_in
-  node_waits k = waits s still_runs (λ z. omega (arith, k, ap (λ (x : Outstanding). x.kind) a.whole, opening-kind z))
-    where
-      opening-kind : s.phase ≡ 0 → (query_in s).kind ≡ 1
-      opening-kind z = rw (still_runs, eq-eqb _ 0 z) refl
-
-  -- The same of what was said and of the answer to it.
-  pub fits_said : (message : List ℕ) (answer : Message) (m : Said) (t : Bool) → Reads message answer → m ≡ said_of_message answer → (m.kind ≡ 10 → ⊥)
-      → t ≡ fitting asked s.session m → matches (outstanding (state_of s)) (message_in message) ≡ t
-  fits_said message answer m t r is well e =
-      fitting_is message answer r (λ z. well (ap (λ (x : Said). x.kind) is ∙ z)) ∙ (ap (fitting asked s.session) (sym is) ∙ sym e)
+-- A node reply that fits answers the query of a pending node.
+pub node_waits : {s : Receiver} {asked : Outstanding} → AsksFor s asked → (r : Reply) → fitting asked s.session (said.Reply r) ≡ true
+    → (0 < s.waiting) × (s.waiting ≤ 128)
+unfolding query_in
+node_waits {asked = query.Opening} a r e = absurd (false≢true e)
+node_waits {s} {asked = query.Node level id} a r e = waits s a.runs not-opening
+  where
+    not-opening : s.phase ≡ 0 → ⊥
+    not-opening z =
+        let opening : query_in s ≡ Some query.Opening = rw (a.runs, eq-eqb _ 0 z) refl in
+        let same : Some (query.Node level id) ≡ Some query.Opening = sym a.whole ∙ opening in
+        cc

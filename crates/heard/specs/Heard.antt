@@ -1,49 +1,48 @@
 -- What a message that was read says to a receiver: document 01, "11 type 3 to 6, of this session, matching the outstanding query's kind,
 -- level and id?"
-use Rattle.std.specs.Prelude.{Bool, false, cond, ◌&&◌, List, ◌≡◌, ℕ, ◌≤◌, eqb, length}
+use Rattle.std.specs.Prelude.{Bool, false, ◌&&◌, List, ◌≡◌, ℕ, eqb, length, Result, Ok, Err}
 use Rattle.std.proofs.Math.Option.{Option, none, some}
-use Rattle.tree.specs.Questions.{within}
 use Rattle.message.specs.Messages.{Msg, opening_query, opening, composition, literal, no_node, parse}
 use Rattle.message.specs.Reading.{stated_by}
 use Rattle.message.specs.Parts.{cells_in, references_in, bytes_in}
 use Rattle.message.specs.declared.Message.{Message}
-use Rattle.message.specs.declared.Message.TheVariants.{Bad, OpeningQuery, NodeQuery, Opening, Composition, Literal, NoNode}
+use Rattle.message.specs.declared.Message.TheVariants.{OpeningQuery, NodeQuery, Opening, Composition, Literal, NoNode}
+use Rattle.refusal.specs.declared.Refusal.{Refusal}
+use Rattle.refusal.specs.declared.Refusal.TheVariants.{Unexpected}
 use Rattle.state.specs.declared.Outstanding.{Outstanding}
-use Rattle.heard.specs.declared.Said.{Said}
+use Rattle.state.specs.declared.Outstanding.TheVariants as query
 use Rattle.heard.specs.declared.Announced.{Announced}
+use Rattle.heard.specs.declared.Content.{Content}
+use Rattle.heard.specs.declared.Content.TheVariants as content
+use Rattle.heard.specs.declared.Reply.{Reply}
+use Rattle.heard.specs.declared.Said.{Said}
+use Rattle.heard.specs.declared.Said.TheVariants as said
 
-abbrev pub said : (kind session level id : ℕ) (numbered : Bool) (number count : ℕ) → Said
-said kind session level id numbered number count =
-    record { kind = kind; session = session; level = level; id = id; numbered = numbered; number = number; count = count }
+abbrev pub replying : (session level id : ℕ) → Content → Said
+replying session level id content = said.Reply (record { session = session; level = level; id = id; content = content })
 
--- What the reader's answer says: its type, or 10 or 11.
-abbrev pub said_of_message : Message → Said
-said_of_message Bad = said 10 0 0 0 false 0 0
-said_of_message (OpeningQuery n) = said 11 0 0 0 false 0 0
-said_of_message (NodeQuery n l i) = said 11 0 0 0 false 0 0
-said_of_message (Opening n rule w p L M q len root at) = said 3 n 0 0 false 0 0
-said_of_message (Composition n l i numbered x at count) = said 4 n l i numbered x count
-said_of_message (Literal n l i at count) = said 5 n l i false 0 count
-said_of_message (NoNode n l i) = said 6 n l i false 0 0
-
-abbrev pub announced : (rule w p L M q len root : ℕ) → Announced
-announced rule w p L M q len root =
-    record { rule = rule; w = w; p = p; levels = L; m = M; q = q; length = len; root = root }
-
-abbrev pub announced_of_message : Message → Announced
-announced_of_message Bad = announced 0 0 0 0 0 0 0 0
-announced_of_message (OpeningQuery n) = announced 0 0 0 0 0 0 0 0
-announced_of_message (NodeQuery n l i) = announced 0 0 0 0 0 0 0 0
-announced_of_message (Opening n rule w p L M q len root at) = announced rule w p L M q len root
-announced_of_message (Composition n l i numbered x at count) = announced 0 0 0 0 0 0 0 0
-announced_of_message (Literal n l i at count) = announced 0 0 0 0 0 0 0 0
-announced_of_message (NoNode n l i) = announced 0 0 0 0 0 0 0 0
+-- What the reader's answer says: an opening or a node reply, or it is refused.
+abbrev pub said_of_message : Message → Result Said Refusal
+said_of_message (OpeningQuery n) = Err Unexpected
+said_of_message (NodeQuery n l i) = Err Unexpected
+said_of_message (Opening n rule w p L M q len root at) =
+    Ok (said.Opening (record {
+      session = n;
+      rule = rule;
+      settings = record { window = w; fan_out = p; levels = L; nominal = M; width = q };
+      length = len;
+      root = root;
+    }))
+said_of_message (Composition n l i trail at count) = Ok (replying n l i (content.Composition trail count))
+said_of_message (Literal n l i at count) = Ok (replying n l i (content.Literal count))
+said_of_message (NoNode n l i) = Ok (replying n l i content.NoNode)
 
 -- Whether what was said is what the outstanding query of that session asks for.
-unfoldable pub fitting : Outstanding → ℕ → Said → Bool
-fitting asked session m =
-    eqb m.session session
-    && cond (eqb asked.kind 1) (eqb m.kind 3) (within 4 6 m.kind && (eqb m.level asked.level && eqb m.id asked.id))
+abbrev pub fitting : Outstanding → ℕ → Said → Bool
+fitting query.Opening n (said.Opening a) = eqb a.session n
+fitting query.Opening n (said.Reply r) = false
+fitting (query.Node level id) n (said.Opening a) = false
+fitting (query.Node level id) n (said.Reply r) = eqb r.session n && (eqb r.level level && eqb r.id id)
 
 -- The message that well-formed bytes are.
 unfoldable pub given : Option Msg → Msg
@@ -53,16 +52,26 @@ given (some m) = m
 abbrev pub message_in : List ℕ → Msg
 message_in s = given (parse s)
 
--- Bytes are the node reply that was heard.
-pub record NodeReply (s : List ℕ) (m : Said) : Type 0 where
-  pub low : 4 ≤ m.kind
-  pub high : m.kind ≤ 6
-  pub composed : m.kind ≡ 4 → (parse s ≡ some (composition m.session m.level m.id (stated_by m.numbered m.number) (references_in (message_in s))))
-      × (m.count ≡ length (references_in (message_in s)))
-  pub bytes : m.kind ≡ 5 → (parse s ≡ some (literal m.session m.level m.id (bytes_in (message_in s)))) × (m.count ≡ length (bytes_in (message_in s)))
-  pub missing : m.kind ≡ 6 → parse s ≡ some (no_node m.session m.level m.id)
+-- Bytes are a node reply that carries this.
+abbrev pub Carries : List ℕ → (session level id : ℕ) → Content → Type 0
+Carries s n l i (content.Composition trail count) =
+    (parse s ≡ some (composition n l i (stated_by trail) (references_in (message_in s)))) × (count ≡ length (references_in (message_in s)))
+Carries s n l i (content.Literal count) =
+    (parse s ≡ some (literal n l i (bytes_in (message_in s)))) × (count ≡ length (bytes_in (message_in s)))
+Carries s n l i content.NoNode = parse s ≡ some (no_node n l i)
 
--- Bytes are the opening that was heard, of some session.
-pub record OpeningReply (s : List ℕ) (a : Announced) : Type 0 where
-  pub session : ℕ
-  pub is : parse s ≡ some (opening session a.rule a.w a.p a.levels a.m a.q a.length a.root (cells_in (message_in s)))
+-- Bytes are the opening that was heard.
+abbrev pub OpeningReply : List ℕ → Announced → Type 0
+OpeningReply s a =
+    parse s
+    ≡ some (opening a.session a.rule a.settings.window a.settings.fan_out a.settings.levels a.settings.nominal a.settings.width a.length a.root
+    (cells_in (message_in s)))
+
+-- Bytes are the node reply that was heard.
+abbrev pub NodeReply : List ℕ → Reply → Type 0
+NodeReply s r = Carries s r.session r.level r.id r.content
+
+-- Bytes are what was heard.
+abbrev pub Hears : List ℕ → Said → Type 0
+Hears s (said.Opening a) = OpeningReply s a
+Hears s (said.Reply r) = NodeReply s r

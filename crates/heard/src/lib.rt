@@ -2,155 +2,118 @@
 #![tactic(auto)]
 
 ghost use Rattle.std.specs.Prelude.{◌≡◌};
-ghost use Rattle.heard.specs.Heard.{said, said_of_message, announced, announced_of_message, fitting};
+ghost use Rattle.heard.specs.Heard.{replying, said_of_message, fitting};
 
 use message::Message;
+use refusal::Refusal;
 use state::Outstanding;
-
-// Kind 3 to 6 is the message's type; 10 is a message that is not well formed, 11 a query. Of a node reply the level and the id, whether a
-// composition is `numbered` and then its number, and how many references or bytes it has.
-#[derive(Clone, Copy)]
-pub struct Said {
-    pub kind: u64,
-    pub session: u64,
-    pub level: u64,
-    pub id: u64,
-    pub numbered: bool,
-    pub number: u64,
-    pub count: usize,
-}
+use tree::Settings;
 
 // What an opening announces.
 #[derive(Clone, Copy)]
 pub struct Announced {
+    pub session: u64,
     pub rule: u64,
-    pub w: u64,
-    pub p: u64,
-    pub levels: u64,
-    pub m: u64,
-    pub q: u64,
+    pub settings: Settings,
     pub length: u64,
     pub root: u64,
 }
 
-fn saying(
-    kind: u64,
-    session: u64,
-    level: u64,
-    id: u64,
-    numbered: bool,
-    number: u64,
-    count: usize,
-) -> Said
-    ensures { result ≡ said kind session level id numbered number count }
+// What a node reply carries: a composition's trail number, which it may leave out, and how many references it has; how many bytes a literal
+// has; or that there is no such node.
+#[derive(Clone, Copy)]
+pub enum Content {
+    Composition { trail: Option<u64>, count: usize },
+    Literal { count: usize },
+    NoNode,
+}
+
+// A reply about the node of this level and id.
+#[derive(Clone, Copy)]
+pub struct Reply {
+    pub session: u64,
+    pub level: u64,
+    pub id: u64,
+    pub content: Content,
+}
+
+// What a message says that answers a query.
+#[derive(Clone, Copy)]
+pub enum Said {
+    Opening(Announced),
+    Reply(Reply),
+}
+
+// A reply about a node, as what is said.
+fn replying(session: u64, level: u64, id: u64, content: Content) -> Said
+    ensures { result ≡ replying session level id content }
 {
-    Said {
-        kind,
+    Said::Reply(Reply {
         session,
         level,
         id,
-        numbered,
-        number,
-        count,
-    }
+        content,
+    })
 }
 
-// What a message says: one of 3 to 6, or why it is refused.
-pub fn said_by(m: Message) -> Said
-    ensures { result ≡ said_of_message m }
+// What a message says. A query is refused: it answers none.
+pub fn said_by(message: Message) -> Result<Said, Refusal>
+    ensures { result ≡ said_of_message message }
 {
-    match m {
-        Message::Bad => saying(10, 0, 0, 0, false, 0, 0),
-        Message::OpeningQuery { .. } => saying(11, 0, 0, 0, false, 0, 0),
-        Message::NodeQuery { .. } => saying(11, 0, 0, 0, false, 0, 0),
-        Message::Opening { session, .. } => saying(3, session, 0, 0, false, 0, 0),
+    match message {
+        Message::OpeningQuery { .. } | Message::NodeQuery { .. } => Err(Refusal::Unexpected),
+        Message::Opening {
+            session,
+            rule,
+            w,
+            p,
+            levels,
+            m,
+            q,
+            length,
+            root,
+            ..
+        } => Ok(Said::Opening(Announced {
+            session,
+            rule,
+            settings: Settings {
+                window: w,
+                fan_out: p,
+                levels,
+                nominal: m,
+                width: q,
+            },
+            length,
+            root,
+        })),
         Message::Composition {
             session,
             level,
             id,
-            numbered,
-            number,
+            trail,
             count,
             ..
-        } => saying(4, session, level, id, numbered, number, count),
+        } => Ok(replying(session, level, id, Content::Composition { trail, count })),
         Message::Literal {
             session,
             level,
             id,
             count,
             ..
-        } => saying(5, session, level, id, false, 0, count),
-        Message::NoNode { session, level, id } => saying(6, session, level, id, false, 0, 0),
-    }
-}
-
-fn nothing() -> Announced
-    ensures { result ≡ announced 0 0 0 0 0 0 0 0 }
-{
-    Announced {
-        rule: 0,
-        w: 0,
-        p: 0,
-        levels: 0,
-        m: 0,
-        q: 0,
-        length: 0,
-        root: 0,
-    }
-}
-
-// What an opening announces; zeros of any other message.
-pub fn announced_of(m: Message) -> Announced
-    ensures { result ≡ announced_of_message m }
-{
-    match m {
-        Message::Opening {
-            rule,
-            w,
-            p,
-            levels,
-            m,
-            q,
-            length,
-            root,
-            ..
-        } => Announced {
-            rule,
-            w,
-            p,
-            levels,
-            m,
-            q,
-            length,
-            root,
-        },
-        Message::Bad => nothing(),
-        Message::OpeningQuery { .. } => nothing(),
-        Message::NodeQuery { .. } => nothing(),
-        Message::Composition { .. } => nothing(),
-        Message::Literal { .. } => nothing(),
-        Message::NoNode { .. } => nothing(),
+        } => Ok(replying(session, level, id, Content::Literal { count })),
+        Message::NoNode { session, level, id } => Ok(replying(session, level, id, Content::NoNode)),
     }
 }
 
 // Question 11: whether a message of this session is what the outstanding query asks for.
-pub fn fits(asked: Outstanding, session: u64, m: Said) -> bool
-    ensures { result ≡ fitting asked session m }
+pub fn fits(asked: Outstanding, session: u64, said: Said) -> bool
+    ensures { result ≡ fitting asked session said }
 {
-    if m.session != session {
-        return false;
+    match (asked, said) {
+        (Outstanding::Opening, Said::Opening(opening)) => opening.session == session,
+        (Outstanding::Node { level, id }, Said::Reply(reply)) => {
+            reply.session == session && reply.level == level && reply.id == id
+        }
+        _ => false,
     }
-    if asked.kind == 1 {
-        return m.kind == 3;
-    }
-    if m.kind < 4 {
-        return false;
-    }
-    if 6 < m.kind {
-        return false;
-    }
-    if m.level != asked.level {
-        return false;
-    }
-    m.id == asked.id
 }

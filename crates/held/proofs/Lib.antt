@@ -1,2 +1,3 @@
 -- Laws of a state in lent bytes.
 pub mod Outcome
+pub mod Small

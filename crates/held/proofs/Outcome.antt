@@ -2,7 +2,7 @@
 use mathlib.Core.Bool.{Bool, true, false, ◌&&◌, false≢true}
 use mathlib.Core.List.{List, ◌++◌}
 use mathlib.Core.Path.{◌≡◌, refl, sym, ap, subst, ◌∙◌}
-use Prim.Native.Nat.{ℕ, ◌^◌, ◌≤◌, ◌<◌}
+use Prim.Native.Nat.{ℕ, ◌+◌, ◌^◌, ◌≤◌, ◌<◌}
 use native.Mathlib.Nat.{suc-ne-zero}
 use native.Mathlib.Omega.{arith}
 use native.Mathlib.Decide.{dec_lt}
@@ -11,6 +11,9 @@ use lib.Dec.{leb}
 use lib.ListN.{length, drop}
 use Rattle.tree.specs.declared.Settings.{Settings}
 use Rattle.tree.specs.Questions.{ask, within, refusal}
+use Rattle.refusal.specs.declared.Refusal.{Refusal}
+use Rattle.refusal.specs.Answer.{number_of}
+use Rattle.refusal.proofs.Numbers.{number_small}
 use Rattle.sketch.specs.Sums.{row_bytes}
 use Rattle.setup.specs.Questions.{tables_fit, lent_refusal}
 use Rattle.setup.specs.Tables.{SetUp}
@@ -19,14 +22,15 @@ use Rattle.setup.proofs.Outcome.{refused}
 use Rattle.setup.proofs.Accepted.{yes_answer, no_answer}
 use Rattle.protocol.specs.Lent.{lent}
 use Rattle.protocol.specs.State.{initial}
-use Rattle.protocol.specs.Receiver.{Result, number_of, unchanged, take_message}
+use Rattle.protocol.specs.Receiver.{Result, number_of as answer_number, unchanged, take_message}
 use Rattle.state.specs.declared.Receiver.{Receiver}
 use Rattle.state.specs.declared.Taken.{Taken}
-use Rattle.state.specs.Receivers.{state_of, receiver_of}
+use Rattle.state.specs.Receivers.{state_of, receiver_of, progress_number}
 use Rattle.state.proofs.Keeping.{starts}
 use Rattle.state_bytes.specs.Bytes.{state_in, state_rows, Stores}
 use Rattle.taking.specs.Taking.{unmoved, struct_after, Takes}
-use Rattle.receiver.specs.Calls.{state_after as state_made, ReceiverSetUp, Asked}
+use Rattle.receiver.specs.declared.Ready.{Ready}
+use Rattle.receiver.specs.Calls.{Starts, Asked}
 use Rattle.held.specs.Held.{decode, bytes_after, HeldSetUp, state_after, HeldTakes}
 
 -- A state of fewer than 2,144 bytes is refused by 1.
@@ -49,7 +53,7 @@ takes_held {string = string} {nodes = nodes} {shingles = shingles} {shingles' = 
 module _ {state string nodes shingles shingles' cells message output output' : List ℕ} {t : Taken}
     (took : Takes (state_in state) string nodes shingles shingles' cells message output output' t) where
   -- A no at 1 to 11.
-  pub held_kept : within 1 11 t.answer ≡ true → HeldTakes state state string nodes shingles shingles' cells message output output' t.answer
+  pub held_kept : within 1 11 (progress_number t.answer) ≡ true → HeldTakes state state string nodes shingles shingles' cells message output output' (progress_number t.answer)
   unfolding state_after struct_after
   held_kept e =
       let R = take_message (decode state) (lent string nodes shingles cells output) message in
@@ -65,17 +69,17 @@ module _ {state string nodes shingles shingles' cells message output output' : L
       }
 
   -- Else the state after the call is stored; the bytes are long enough, since fewer are refused by 1.
-  pub held_stored : {state' : List ℕ} → within 1 11 t.answer ≡ false → Stores state state' t.state
-      → HeldTakes state state' string nodes shingles shingles' cells message output output' t.answer
-  unfolding unchanged number_of state_after struct_after
+  pub held_stored : {state' : List ℕ} → within 1 11 (progress_number t.answer) ≡ false → Stores state state' t.state
+      → HeldTakes state state' string nodes shingles shingles' cells message output output' (progress_number t.answer)
+  unfolding unchanged answer_number state_after struct_after
   held_stored e stored =
       let R = take_message (decode state) (lent string nodes shingles cells output) message in
       let is : unmoved R ≡ false = ap (within 1 11) (sym took.gives.answer) ∙ e in
       let new : t.state ≡ receiver_of R.state = took.gives.whole ∙ rw is refl in
       elim (dec_lt (length state) 2144) [
         | yes short ↦
-            let one : t.answer ≡ 1 =
-            took.gives.answer ∙ ap (λ (S : Result). number_of S.answer) (short_refused state string nodes shingles cells message output short) in
+            let one : progress_number t.answer ≡ 1 =
+            took.gives.answer ∙ ap (λ (S : Result). answer_number S.answer) (short_refused state string nodes shingles cells message output short) in
             absurd (false≢true (sym e ∙ ap (within 1 11) one))
         | no enough ↦
             let long : 2144 ≤ length state = omega (arith, enough) in
@@ -120,23 +124,24 @@ module _ (σ : Settings) (session : ℕ) (string nodes shingles cells state : Li
         nothing_made 7 (sym (asked σ (length string) r is passes fit false (rw (lt-leb 2144 (length state) short)))) (suc-ne-zero 6)
 
   -- A state that is long enough, and the tables as they were filled.
-  module _ (long : 2144 ≤ length state) (nodes' shingles' cells' : List ℕ) (t : Taken)
-      (made : ReceiverSetUp σ session string nodes nodes' shingles shingles' cells cells' t) where
-    tables : SetUp σ string room nodes nodes' shingles shingles' cells cells' t.answer
-    tables = rw (le-leb 2144 (length state) long) made.tables
+  module _ (long : 2144 ≤ length state) (nodes' shingles' cells' : List ℕ) where
+    tables : (r : ℕ) → SetUp σ string true nodes nodes' shingles shingles' cells cells' r → SetUp σ string room nodes nodes' shingles shingles' cells cells' r
+    tables r made = rw (le-leb 2144 (length state) long) made
 
-    pub refused_tables : t.answer < 2 ^ 32 → HeldSetUp σ session string nodes nodes' shingles shingles' cells cells' state state t.answer
-    refused_tables low = no_state nodes' shingles' cells' t.answer tables low
+    pub refused_tables : (question : Refusal) → SetUp σ string true nodes nodes' shingles shingles' cells cells' (number_of question)
+        → HeldSetUp σ session string nodes nodes' shingles shingles' cells cells' state state (number_of question)
+    refused_tables question made = no_state nodes' shingles' cells' (number_of question) (tables _ made) (number_small question)
 
-    pub state_made_lem : (state' : List ℕ) → 2 ^ 32 ≤ t.answer → Stores state state' t.state
-        → HeldSetUp σ session string nodes nodes' shingles shingles' cells cells' state state' t.answer
-    unfolding bytes_after state_made
-    state_made_lem state' high stored =
-        let yes-is = yes_answer _ _ _ _ _ _ _ _ _ _ made.tables high in
-        let new : t.state ≡ receiver_of (initial σ session) = made.state_is ∙ rw (eq-eqb _ 0 yes-is) refl in
+    pub state_made : (ready : Ready) → Starts σ session string nodes nodes' shingles shingles' cells cells' ready
+        → (state' : List ℕ) → Stores state state' ready.state
+        → HeldSetUp σ session string nodes nodes' shingles shingles' cells cells' state state' (2 ^ 32 + ready.nodes)
+    unfolding bytes_after
+    state_made ready made state' stored =
+        let filled = tables _ made.tables in
+        let yes-is = yes_answer _ _ _ _ _ _ _ _ _ _ filled (omega arith) in
         record {
-          tables = tables;
+          tables = filled;
           state_is = stored.bytes long
-              ∙ (ap (λ (s : Receiver). row_bytes (state_rows s) ++ drop 2144 state) new ∙ rw (eq-eqb _ 0 (yes_answer _ _ _ _ _ _ _ _ _ _ tables high)) refl);
-          held = λ z. ap state_of (stored.held long ∙ new) ∙ starts σ session;
+              ∙ (ap (λ (s : Receiver). row_bytes (state_rows s) ++ drop 2144 state) made.state_is ∙ rw (eq-eqb _ 0 yes-is) refl);
+          held = λ z. ap state_of (stored.held long ∙ made.state_is) ∙ starts σ session;
         }

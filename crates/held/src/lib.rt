@@ -3,21 +3,25 @@
 
 ghost use Rattle.std.specs.Prelude.{◌≡◌};
 ghost use Rattle.tree.specs.Questions.{within};
+ghost use Rattle.refusal.specs.Answer.{answer_of};
+ghost use Rattle.state.specs.Receivers.{progress_number};
 ghost use Rattle.state_bytes.specs.Bytes.{state_in};
 ghost use Rattle.receiver.specs.Calls.{Asked};
 ghost use Rattle.held.specs.Held.{HeldSetUp, HeldTakes};
 
+use refusal::Refusal;
+use setup::Lent;
+use state::Progress;
 use tree::Settings;
-
-// An answer from here on is no refusal.
-const ACCEPTED: u64 = 4294967296;
 
 // How many bytes a state has.
 const SIZE: usize = 2144;
 
+// The last question whose no changes nothing.
+const LAST_UNMOVED: u64 = 11;
+
 // Sets a receiver up: its three tables are filled from its own string, and its state is written to the front of the bytes. Asked are 1
-// to 8, and 7 of the state too: the answer is the number of the first that fails, or 2^32 and the number of nodes. A no leaves the state
-// as it is.
+// to 8, and 7 of the state too. Answers the number of nodes. A no leaves the state as it is.
 pub fn setup(
     settings: Settings,
     session: u64,
@@ -26,36 +30,30 @@ pub fn setup(
     shingles: &mut [u8],
     cells: &mut [u8],
     state: &mut [u8],
-) -> u64
+) -> Result<usize, Refusal>
     ensures { HeldSetUp settings session string.now nodes.old nodes.new shingles.old
-        shingles.new cells.old cells.new state.old state.new result }
+        shingles.new cells.old cells.new state.old state.new (answer_of result) }
 {
-    let refused = tree::question(settings, string.len());
-    if refused != 0 {
-        return refused;
-    }
+    tree::question(settings, string.len())?;
     if state.len() < SIZE {
-        return 7;
+        return Err(Refusal::Room);
     }
-    let made = receiver::setup(settings, session, string, nodes, shingles, cells);
-    let answer = made.answer;
-    if answer < ACCEPTED {
-        return answer;
-    }
-    state_bytes::store(state, made.state);
-    answer
+    let ready = receiver::setup(settings, session, string, nodes, shingles, cells)?;
+    state_bytes::store(state, ready.state);
+    Ok(ready.nodes)
 }
 
-// Whether an answer is a no at 1 to 11, which changes nothing.
-fn refuses(answer: u64) -> bool
-    ensures { result ≡ within 1 11 answer }
+// Whether an answer is a no that changes nothing: those to the questions of what is lent, and those to the message itself.
+fn refuses(answer: Result<Progress, Refusal>) -> bool
+    ensures { result ≡ within 1 11 (progress_number answer) }
 {
-    0 < answer && answer < 12
+    match answer {
+        Ok(_) => false,
+        Err(question) => question.number() <= LAST_UNMOVED,
+    }
 }
 
-// Takes a message. Asked are 1 to 7, 9 to 11, and 12 to 19: the answer is the number of the first that fails, 0 while the session goes
-// on, or 2^32 and the length of the string that is handed over. A no at 1 to 11 leaves the state's bytes as they are; else each of them is
-// written.
+// Takes a message. A no that changes nothing leaves the state's bytes as they are; else each of them is written.
 pub fn take(
     state: &mut [u8],
     string: &[u8],
@@ -64,32 +62,23 @@ pub fn take(
     cells: &[u8],
     message: &[u8],
     output: &mut [u8],
-) -> u64
+) -> Result<Progress, Refusal>
     ensures { HeldTakes state.old state.new string.now nodes.now shingles.old
-        shingles.new cells.now message.now output.old output.new result }
+        shingles.new cells.now message.now output.old output.new (progress_number result) }
 {
     let before = state_bytes::load(state);
     let taken = taking::take(before, string, nodes, shingles, cells, message, output);
-    let answer = taken.answer;
-    if refuses(answer) {
-        return answer;
+    if !refuses(taken.answer) {
+        state_bytes::store(state, taken.state);
     }
-    state_bytes::store(state, taken.state);
-    answer
+    taken.answer
 }
 
-// Writes the outstanding query. Asked are 1 to 7, 9 and 20.
-pub fn query(
-    state: &[u8],
-    string: &[u8],
-    nodes: &[u8],
-    shingles: &[u8],
-    cells: &[u8],
-    buffer: &mut [u8],
-) -> u64
-    ensures { Asked (state_in state.now) string.now nodes.now shingles.now
-        cells.now buffer.old buffer.new result }
+// Writes the outstanding query, and answers the number of bytes written. By a no the buffer is as it was.
+pub fn query(state: &[u8], lent: Lent, buffer: &mut [u8]) -> Result<usize, Refusal>
+    ensures { Asked (state_in state.now) lent.entry.string.now lent.entry.nodes.now lent.entry.shingles.now
+        lent.entry.cells.now buffer.old buffer.new (answer_of result) }
 {
     let held = state_bytes::load(state);
-    receiver::query(held, string, nodes, shingles, cells, buffer)
+    receiver::query(held, lent, buffer)
 }

@@ -5,7 +5,7 @@ use Rattle.std.proofs.Math.Decide.{dec_le}
 use Rattle.std.proofs.Math.ListN.{get_or-eq_default}
 use Rattle.std.proofs.Math.Seq.{take-length, paste, paste-zero, paste-suc}
 use Rattle.message.specs.Words.{Word, Ref, word_of, link_words, rest_of, reference_word, top_byte, middle_byte, low_byte, carries_three_bytes, carries_two_bytes, carries_one_byte, is_end_word}
-use Rattle.message.specs.Fields.{one, head, number, value, values_of, many_from, text_from, text_after}
+use Rattle.message.specs.Fields.{one, maybe, maybe_of, head, number, value, values_of, many_from, text_from, text_after}
 use Rattle.message.specs.Messages.{Msg, opening_query, node_query, literal, no_node, cell_values, body_of, parse_words, parse}
 use Rattle.message.specs.Reading.{references_at, numbers_are, pair_is, opening_by_places}
 use Rattle.message.specs.Parts.{cells_in, references_in, bytes_in, is_numbered, CellRead, ReferenceRead, three_each, fronted, Copied}
@@ -30,10 +30,10 @@ module _ (ws : List ℕ) where
       let q = number.of (drop 6 ws) in
       (ap (λ (k : ℕ). values_of k (drop 11 ws)) (sym (length_values (cell_values q) (drop 11 ws))), refl, refl)
 
-  composition_placed : (c n : ℕ) (numbered : Bool) → Placed ws (composed ws c n numbered (references_at numbered))
+  composition_placed : (c n x : ℕ) (numbered : Bool) → Placed ws (composed ws c n (cond numbered (some x) none) (references_at numbered))
   unfolding cells_in references_in bytes_in values_of is_numbered
-  composition_placed c n true = (refl, sym (take-length (many_from reference_word (drop 6 ws))), refl)
-  composition_placed c n false = (refl, sym (take-length (many_from reference_word (drop 5 ws))), refl)
+  composition_placed c n x true = (refl, sym (take-length (many_from reference_word (drop 6 ws))), refl)
+  composition_placed c n x false = (refl, sym (take-length (many_from reference_word (drop 5 ws))), refl)
 
   literal_placed : (n l i : ℕ) → Placed ws (literal n l i (text_from (drop 5 ws)))
   unfolding cells_in references_in bytes_in values_of
@@ -52,14 +52,14 @@ module _ (ws : List ℕ) where
   no_node_placed n l i = (refl, refl, refl)
 
   body_placed : (c n t : ℕ) (m : Msg) → body_of c n t (drop 1 ws) ≡ some m → Placed ws m
-  unfolding body_of
+  unfolding body_of maybe maybe_of one
   body_placed c n t m e =
       picked (eqb t 1) _ _ e (λ is p. found_placed m _ (is_end_word c (drop 1 ws)) (sym (opening_query_form ws c n) ∙ p) (query_placed n)) λ e.
       picked (eqb t 2) _ _ e (λ is p. found_placed m _ (pair_is ws && is_end_word c (drop 5 ws)) (sym (node_query_form ws c n) ∙ p) (node_placed n (number.of (drop 1 ws)) (value.of (drop 2 ws)))) λ e.
       picked (eqb t 3) _ _ e (λ is p. found_placed m _ (numbers_are ws 1 7 && (value.is (drop 8 ws) && cells_end ws c n)) (sym (opening_form ws c n) ∙ p) (opening_placed n)) λ e.
       picked (eqb t 4) _ _ e
       (λ is p. found_placed m _ (pair_is ws && references_end ws c n (references_at (number.is (drop 5 ws)))) (sym (composition_form ws c n) ∙ p)
-      (composition_placed c n (number.is (drop 5 ws)))) λ e.
+      (composition_placed c n (number.of (drop 5 ws)) (number.is (drop 5 ws)))) λ e.
       picked (eqb t 5) _ _ e (λ is p. found_placed m _ (pair_is ws && is_end_word c (text_after (drop 5 ws))) (sym (literal_form ws c n) ∙ p) (literal_placed n (number.of (drop 1 ws)) (value.of (drop 2 ws)))) λ e.
       picked (eqb t 6) _ _ e (λ is p. found_placed m _ (pair_is ws && is_end_word c (drop 5 ws)) (sym (no_node_form ws c n) ∙ p) (no_node_placed n (number.of (drop 1 ws)) (value.of (drop 2 ws)))) λ e.
       absurd (none_is_none e)

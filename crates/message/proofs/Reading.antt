@@ -2,6 +2,8 @@
 use Rattle.std.proofs.Common.{Bool, true, false, cond, ◌&&◌, List, [], ◌∷◌, ◌≡◌, refl, sym, ap, ◌∙◌, ℕ, zero, suc, ◌+◌, ◌*◌, ◌-◌, ◌/◌, ◌<◌, ◌≤◌, max, add-zero, add-one, arith, le-leb, lt-ltb, leb, ltb, eqb, length, get_or, drop, length-drop, drop_of_length-le, get_or-drop, drop-drop, drop-cons}
 use Rattle.std.proofs.Math.Bool.{and_assoc}
 use Rattle.std.proofs.Math.Option.{Option, none, some}
+use Rattle.std.specs.Prelude.{Option as Answer, None, Some, MatchOption}
+use Rattle.std.specs.Option.{is_some}
 use Rattle.std.proofs.lemmas.Bool.{lt-leb}
 use Rattle.std.proofs.Math.Decide.{dec_le}
 use Rattle.std.proofs.Math.ListN.{get_or-eq_default}
@@ -296,9 +298,22 @@ references_then ws next t y p = both_conds (rising (many_from reference_word ws)
 -- Whether the number is there or not, reading goes on.
 maybe_then : {B : Type 0} (ws : List ℕ) (k : ℕ) (next : Option ℕ → List ℕ → Option B)
     → read maybe_number (drop k ws) next
-    ≡ next (stated_by (number.is (drop k ws)) (number.of (drop k ws))) (cond (number.is (drop k ws)) (drop 1 (drop k ws)) (drop k ws))
+    ≡ next (maybe_number.of (drop k ws)) (cond (number.is (drop k ws)) (drop 1 (drop k ws)) (drop k ws))
 unfolding read maybe maybe_of maybe_after one
 maybe_then ws k next = refl
+
+-- The trail number that was read, or None.
+abbrev pub Trailed : List ℕ → Answer ℕ → Type 0
+Trailed ws trail = MatchOption trail (number.is (drop 5 ws) ≡ false) (λ x. (number.is (drop 5 ws) ≡ true) × (x ≡ number.of (drop 5 ws)))
+
+pub trail_there : (ws : List ℕ) (trail : Answer ℕ) → Trailed ws trail → number.is (drop 5 ws) ≡ is_some trail
+trail_there ws None out = out
+trail_there ws (Some x) read = read.0
+
+pub trail_stated : (ws : List ℕ) (trail : Answer ℕ) → Trailed ws trail → maybe_number.of (drop 5 ws) ≡ stated_by trail
+unfolding maybe maybe_of one
+trail_stated ws None out = rw out
+trail_stated ws (Some x) read = rw (read.0, read.1)
 
 values_then : {B : Type 0} (n : ℕ) (ws : List ℕ) (k : ℕ) (next : List ℕ → List ℕ → Option B) (t : Bool) (y : B)
     → next (values_of n (drop k ws)) (drop (k + n * 3) ws) ≡ cond t (some y) none
@@ -357,9 +372,8 @@ module _ (ws : List ℕ) (c n : ℕ) where
       (text_then (drop 5 ws) _ (is_end_word c (text_after (drop 5 ws))) (literal n (number.of (drop 1 ws)) (value.of (drop 2 ws)) (text_from (drop 5 ws))) refl)
 
   -- What is read of a composition whose references start at place `at`, with a trail number or without.
-  abbrev pub composed : (numbered : Bool) (at : ℕ) → Msg
-  composed numbered at =
-      composition n (number.of (drop 1 ws)) (value.of (drop 2 ws)) (stated_by numbered (number.of (drop 5 ws))) (many_from reference_word (drop at ws))
+  abbrev pub composed : (trail : Option ℕ) (at : ℕ) → Msg
+  composed trail at = composition n (number.of (drop 1 ws)) (value.of (drop 2 ws)) trail (many_from reference_word (drop at ws))
 
   abbrev pub references_end : ℕ → Bool
   references_end at = rising (many_from reference_word (drop at ws)) && is_end_word c (many_after reference_word (drop at ws))
@@ -370,11 +384,11 @@ module _ (ws : List ℕ) (c n : ℕ) where
 
   pub composition_form : body_of c n 4 (drop 1 ws)
       ≡ cond (pair_is ws && references_end (references_at (number.is (drop 5 ws))))
-      (some (composed (number.is (drop 5 ws)) (references_at (number.is (drop 5 ws))))) none
+      (some (composed (maybe_number.of (drop 5 ws)) (references_at (number.is (drop 5 ws))))) none
   unfolding body_of finish
   composition_form =
       let numbered = number.is (drop 5 ws) in
-      pair_then _ (references_end (references_at numbered)) (composed numbered (references_at numbered))
+      pair_then _ (references_end (references_at numbered)) (composed (maybe_number.of (drop 5 ws)) (references_at numbered))
       (maybe_then ws 5 _
       ∙ rw (references_at_lem numbered)
       (references_then (drop (references_at numbered) ws) _ (is_end_word c (many_after reference_word (drop (references_at numbered) ws))) _ refl))

@@ -1,17 +1,21 @@
 // The words and messages of the link, read and written.
 #![tactic(auto)]
 
+ghost use Rattle.std.specs.Prelude.{◌≡◌};
+ghost use Rattle.message.specs.Reading.{form_of};
+
 mod field;
 pub mod kind;
 pub mod reader;
 mod run;
 mod word;
 
-// What reading some bytes answers. A message's cells, references and bytes stay where they are, from word `at` on. A composition that is not
-// `numbered` carries no trail number, and its `number` says nothing.
+use kind::Form;
+
+// What a well-formed message says. Its cells, references and bytes stay where they are, from word `at` on. A composition may leave out its
+// trail number.
 #[derive(Clone, Copy)]
 pub enum Message {
-    Bad,
     OpeningQuery {
         session: u64,
     },
@@ -36,8 +40,7 @@ pub enum Message {
         session: u64,
         level: u64,
         id: u64,
-        numbered: bool,
-        number: u64,
+        trail: Option<u64>,
         at: usize,
         count: usize,
     },
@@ -53,4 +56,20 @@ pub enum Message {
         level: u64,
         id: u64,
     },
+}
+
+impl Message {
+    // The message's type.
+    pub fn form(self) -> Form
+        ensures { result ≡ form_of self }
+    {
+        match self {
+            Message::OpeningQuery { .. } => Form::OpeningQuery,
+            Message::NodeQuery { .. } => Form::NodeQuery,
+            Message::Opening { .. } => Form::Opening,
+            Message::Composition { .. } => Form::Composition,
+            Message::Literal { .. } => Form::Literal,
+            Message::NoNode { .. } => Form::NoNode,
+        }
+    }
 }

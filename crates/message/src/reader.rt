@@ -1,25 +1,19 @@
 // Reading a message: question 10, and what a well-formed message says.
-ghost use Rattle.std.specs.Prelude.{MatchOption, true, false, ◌&&◌, ◌≡◌, ◌<◌, length, get_or, drop};
+ghost use Rattle.std.specs.Prelude.{MatchOption, Some, true, false, ◌&&◌, ◌≡◌, ◌<◌, length, get_or, drop};
+ghost use Rattle.std.specs.Option.{is_some};
 ghost use Rattle.std.proofs.Math.Option.{some};
+ghost use Rattle.refusal.specs.Answer.{answer_of};
 ghost use Rattle.message.specs.Words.{link_words};
 ghost use Rattle.message.specs.Messages.{parse};
-ghost use Rattle.message.specs.Reading.{or_bad, PairRead, ends_at, meant, Placed, Counted, Reads, ReadsBody, pair_is, references_at, opening_by_places, number_of, type_answer};
+ghost use Rattle.message.specs.Reading.{PairRead, ends_at, meant, Placed, Counted, Reads, ReadsBody, pair_is, references_at, opening_by_places, type_answer};
 ghost use Rattle.message.specs.Parts.{CellRead, ReferenceRead, Copied, three_each};
 
 use crate::Message;
-use crate::field::{is_end, is_number, is_value, number, number_at, value, value_at};
-use crate::kind::Kind;
+use crate::field::{is_end, is_value, number, number_at, value, value_at};
+use crate::kind::{Kind, SESSIONS};
 use crate::run::{are_values, reference_run, seven_numbers, text_run};
 use crate::word::{is_of, load, rest};
-
-// What answers a message that is not well formed.
-const BAD: u64 = 10;
-
-// What stands above the type in the answer to a well-formed message.
-const WELL_FORMED: u64 = 4294967296;
-
-// How many sessions there are: their numbers have 24 bits of a head, below the type.
-const SESSIONS: u64 = 16777216;
+use refusal::Refusal;
 
 // Level and id, if they stand in their places.
 #[tactic(auto, unfolding(crate::specs::Reading::pair_is))]
@@ -43,7 +37,7 @@ fn pair_alone(message: &[u8]) -> Option<(u64, u64)>
 
 #[tactic(auto, using(crate::proofs::Answers::opening_query_no_end, crate::proofs::Answers::opening_query_read))]
 fn opening_query(message: &[u8], session: u64) -> Option<Message>
-    ensures { ReadsBody message.now session 1 (or_bad result) }
+    ensures { ReadsBody message.now session 1 result }
 {
     if !is_end(message, 1) {
         return None;
@@ -53,7 +47,7 @@ fn opening_query(message: &[u8], session: u64) -> Option<Message>
 
 #[tactic(auto, using(crate::proofs::Answers::node_query_no_pair, crate::proofs::Answers::node_query_read))]
 fn node_query(message: &[u8], session: u64) -> Option<Message>
-    ensures { ReadsBody message.now session 2 (or_bad result) }
+    ensures { ReadsBody message.now session 2 result }
 {
     let (level, id) = pair_alone(message)?;
     Some(Message::NodeQuery { session, level, id })
@@ -61,7 +55,7 @@ fn node_query(message: &[u8], session: u64) -> Option<Message>
 
 #[tactic(auto, using(crate::proofs::Answers::no_node_no_pair, crate::proofs::Answers::no_node_read))]
 fn no_node(message: &[u8], session: u64) -> Option<Message>
-    ensures { ReadsBody message.now session 6 (or_bad result) }
+    ensures { ReadsBody message.now session 6 result }
 {
     let (level, id) = pair_alone(message)?;
     Some(Message::NoNode { session, level, id })
@@ -69,7 +63,7 @@ fn no_node(message: &[u8], session: u64) -> Option<Message>
 
 #[tactic(auto, using(crate::proofs::Answers::literal_no_pair))]
 fn literal(message: &[u8], session: u64) -> Option<Message>
-    ensures { ReadsBody message.now session 5 (or_bad result) }
+    ensures { ReadsBody message.now session 5 result }
 {
     let (level, id) = pair(message)?;
     let text = text_run(message, 5);
@@ -86,31 +80,29 @@ fn literal(message: &[u8], session: u64) -> Option<Message>
 }
 
 // The word from which a composition's references stand: after the head, the level, the id and the trail number, if it is there.
-pub fn references_from(numbered: bool) -> usize
-    ensures { result ≡ references_at numbered }
+pub fn references_from(trail: Option<u64>) -> usize
+    ensures { result ≡ references_at (is_some trail) }
 {
-    if numbered { 6 } else { 5 }
+    if trail.is_some() { 6 } else { 5 }
 }
 
-#[tactic(auto, using(crate::proofs::Answers::composition_no_pair, crate::proofs::Answers::composition_falls, crate::proofs::Answers::composition_no_end))]
+#[tactic(auto, using(crate::proofs::Answers::composition_no_pair))]
 fn composition(message: &[u8], session: u64) -> Option<Message>
-    ensures { ReadsBody message.now session 4 (or_bad result) }
+    ensures { ReadsBody message.now session 4 result }
 {
     let (level, id) = pair(message)?;
-    let numbered = is_number(message, 5);
-    let at = references_from(numbered);
+    let trail = number(message, 5);
+    let at = references_from(trail);
     let end = reference_run(message, at)?;
     if !is_end(message, end) {
         return None;
     }
-    let number = number_at(message, 5);
     let count = end - at;
     Some(Message::Composition {
         session,
         level,
         id,
-        numbered,
-        number,
+        trail,
         at,
         count,
     })
@@ -119,7 +111,7 @@ fn composition(message: &[u8], session: u64) -> Option<Message>
 // The opening that stands in the message, if it is well formed.
 #[tactic(auto, unfolding(crate::specs::Reading::opening_by_places))]
 fn opening_at(message: &[u8], session: u64) -> Message
-    ensures { (meant (link_words message.now) result ≡ some (opening_by_places (link_words message.now) session)) × Placed result × Counted (link_words message.now) result }
+    ensures { (meant (link_words message.now) (Some result) ≡ some (opening_by_places (link_words message.now) session)) × Placed (Some result) × Counted (link_words message.now) (Some result) }
 {
     Message::Opening {
         session,
@@ -137,7 +129,7 @@ fn opening_at(message: &[u8], session: u64) -> Message
 
 #[tactic(auto, using(crate::proofs::Answers::number_below, crate::proofs::Answers::opening_no_numbers, crate::proofs::Answers::opening_no_root, crate::proofs::Answers::opening_no_cells, crate::proofs::Answers::opening_no_end, crate::proofs::Answers::opening_read))]
 fn opening(message: &[u8], session: u64) -> Option<Message>
-    ensures { ReadsBody message.now session 3 (or_bad result) }
+    ensures { ReadsBody message.now session 3 result }
 {
     if !seven_numbers(message) || !is_value(message, 8) {
         return None;
@@ -153,7 +145,7 @@ fn opening(message: &[u8], session: u64) -> Option<Message>
 // What follows the head, by the type.
 #[tactic(auto, using(crate::proofs::Answers::no_type))]
 fn body(message: &[u8], form: u64, session: u64) -> Option<Message>
-    ensures { ReadsBody message.now session form (or_bad result) }
+    ensures { ReadsBody message.now session form result }
 {
     match form {
         1 => opening_query(message, session),
@@ -166,42 +158,30 @@ fn body(message: &[u8], form: u64, session: u64) -> Option<Message>
     }
 }
 
-// Reads a message. Question 10 is answered by `Bad`; any other answer is what the message says.
+// What a message says, if it is well formed.
 #[tactic(auto, using(crate::proofs::Answers::read_not_whole, crate::proofs::Answers::read_no_head, crate::proofs::Answers::read_whole))]
-pub fn read(message: &[u8]) -> Message
+pub fn read(message: &[u8]) -> Option<Message>
     ensures { Reads message.now result }
 {
     if message.len() % 4 != 0 {
-        return Message::Bad;
+        return None;
     }
     let w = load(message, 0);
     if !is_of(w, Kind::Head) {
-        return Message::Bad;
+        return None;
     }
     let x = rest(w);
-    body(message, x / SESSIONS, x % SESSIONS).unwrap_or(Message::Bad)
+    body(message, x / SESSIONS, x % SESSIONS)
 }
 
-// The number of an answer.
-fn number_of(m: Message) -> u64
-    ensures { result ≡ number_of m }
+// The type of a message, if it is well formed.
+pub fn message_type(message: &[u8]) -> Result<usize, Refusal>
+    ensures { answer_of result ≡ type_answer (parse message.now) }
 {
-    match m {
-        Message::Bad => BAD,
-        Message::OpeningQuery { .. } => WELL_FORMED + 1,
-        Message::NodeQuery { .. } => WELL_FORMED + 2,
-        Message::Opening { .. } => WELL_FORMED + 3,
-        Message::Composition { .. } => WELL_FORMED + 4,
-        Message::Literal { .. } => WELL_FORMED + 5,
-        Message::NoNode { .. } => WELL_FORMED + 6,
-    }
-}
-
-// 10, or 2^32 and the type of a well-formed message.
-pub fn message_type(message: &[u8]) -> u64
-    ensures { result ≡ type_answer (parse message.now) }
-{
-    number_of(read(message))
+    let Some(read) = read(message) else {
+        return Err(Refusal::Form);
+    };
+    Ok(read.form() as usize)
 }
 
 // A reference: an index of the sender's shingle list, and how often.

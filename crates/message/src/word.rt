@@ -4,10 +4,7 @@ ghost use Rattle.message.specs.Words.{link_words, kind_of, rest_of, carried_by, 
 ghost use Rattle.message.specs.Kinds.{number_of_kind};
 ghost use Rattle.message.specs.Fields.{parts_test, parts_value};
 
-use crate::kind::Kind;
-
-// What the kind of a word weighs: it stands above the 28 bits that say the rest.
-const KIND_WEIGHT: u64 = 268435456;
+use crate::kind::{KIND_WEIGHT, Kind};
 
 // Word k of the message, or 0 where it has no such word.
 pub fn load(message: &[u8], k: usize) -> u64

@@ -1,3 +1,2 @@
 -- Laws of writing messages.
 pub mod Writing
-pub mod Codes

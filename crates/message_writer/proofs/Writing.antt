@@ -12,6 +12,8 @@ use Rattle.message.specs.Words.{link_bytes, bytes_of, with_kind, plain, head_wor
 use Rattle.message.specs.Fields.{one, number, head, value, values, text_to, text, values_to, many_to, many, maybe_to, maybe, maybe_number, only}
 use Rattle.message.specs.Messages.{Msg, opening_query, node_query, opening, composition, literal, no_node, headed, words_then, size_of, encode_words, encode}
 use Rattle.message.specs.Reading.{stated_by, references_at}
+use Rattle.std.specs.Prelude.{Option, None, Some}
+use Rattle.std.specs.Option.{is_some}
 use Rattle.message.proofs.Words.{length_bytes}
 use Rattle.message.proofs.Messages.{length-encode, length_encode_words}
 use Rattle.message_writer.specs.Writing.{Written, pair_bytes, Stored, first_rows, paired}
@@ -87,6 +89,13 @@ pub written_fit : (m : Msg) (b b' : List ℕ) (n : ℕ) → n ≡ size_of m → 
     → Written b b' (encode m) (2 ^ 32 + n * 4)
 unfolding encode
 written_fit m b b' n e h p = words_fit (encode_words m) b b' n (e ∙ sym (length_encode_words m)) h p
+
+-- What a writer answers is a number of 64 bits.
+pub written_low : {before after bytes : List ℕ} {answer : ℕ} → Written before after bytes answer → length before < 2 ^ 63 → answer < 2 ^ 64
+written_low {before} {after} {bytes} {answer} w h = elim (dec_le (length bytes) (length before)) [
+  | yes fits ↦ (let e : answer ≡ 2 ^ 32 + length bytes = w.answer_is ∙ rw (le-leb (length bytes) (length before) fits) in omega (arith, e))
+  | no long ↦ (let e : answer ≡ 20 = w.answer_is ∙ rw (lt-leb (length bytes) (length before) (omega arith)) in omega (arith, e))
+]
 
 -- The words of a field.
 pub number_stored : {b b' : List ℕ} {k w : ℕ} (x : ℕ) → w ≡ with_kind 2 x → Stored b b' k (w ∷ []) → Stored b b' k (number.to x)
@@ -281,39 +290,39 @@ pub references_low : (numbered : Bool) → references_at numbered ≤ 6
 references_low true = omega arith
 references_low false = omega arith
 
-pub trail_number_stored : {b b' : List ℕ} (x : ℕ) → Stored b b' 5 (number.to x) → Stored b b' 5 (maybe_number.to (stated_by true x))
+pub trail_number_stored : {b b' : List ℕ} (x : ℕ) → Stored b b' 5 (number.to x) → Stored b b' 5 (maybe_number.to (stated_by (Some x)))
 unfolding maybe maybe_to one
 trail_number_stored x p = p
 
-pub no_trail_number_stored : (b : List ℕ) (x : ℕ) → Stored b b 5 (maybe_number.to (stated_by false x))
+pub no_trail_number_stored : (b : List ℕ) → Stored b b 5 (maybe_number.to (stated_by None))
 unfolding maybe maybe_to
-no_trail_number_stored b x = stored_none b 5
+no_trail_number_stored b = stored_none b 5
 
-module _ (n l i x : ℕ) (indexes counts : List ℕ) where
-  abbrev pub composed : Bool → Msg
-  composed numbered = composition n l i (stated_by numbered x) (paired indexes counts)
+module _ (n l i : ℕ) (indexes counts : List ℕ) where
+  abbrev pub composed : Option ℕ → Msg
+  composed trail = composition n l i (stated_by trail) (paired indexes counts)
 
-  length_trail_number : (numbered : Bool) → 5 + length (maybe_number.to (stated_by numbered x)) ≡ references_at numbered
+  length_trail_number : (trail : Option ℕ) → 5 + length (maybe_number.to (stated_by trail)) ≡ references_at (is_some trail)
   unfolding maybe maybe_to
-  length_trail_number true = refl
-  length_trail_number false = refl
+  length_trail_number (Some x) = refl
+  length_trail_number None = refl
 
-  pub composition_size : (numbered : Bool) → min (length indexes) (length counts) + references_at numbered + 1 ≡ size_of (composed numbered)
+  pub composition_size : (trail : Option ℕ) → min (length indexes) (length counts) + references_at (is_some trail) + 1 ≡ size_of (composed trail)
   unfolding size_of words_then headed one value only many maybe
-  composition_size numbered =
-      let words = length-append (maybe_number.to (stated_by numbered x)) (many_to reference_word (paired indexes counts)) in
-      rw (append-nil (many_to reference_word (paired indexes counts)), words) (omega (arith, length_trail_number numbered, length-paired indexes counts))
+  composition_size trail =
+      let words = length-append (maybe_number.to (stated_by trail)) (many_to reference_word (paired indexes counts)) in
+      rw (append-nil (many_to reference_word (paired indexes counts)), words) (omega (arith, length_trail_number trail, length-paired indexes counts))
 
-  pub composition_stored : {b b₁ b₂ b₃ b₄ : List ℕ} (numbered : Bool) (from words : ℕ) → from ≡ references_at numbered → words ≡ min (length indexes) (length counts)
-      → Stored b b₁ 0 (headed 4 n (number.to l ++ value.to i)) → Stored b₁ b₂ 5 (maybe_number.to (stated_by numbered x))
+  pub composition_stored : {b b₁ b₂ b₃ b₄ : List ℕ} (trail : Option ℕ) (from words : ℕ) → from ≡ references_at (is_some trail) → words ≡ min (length indexes) (length counts)
+      → Stored b b₁ 0 (headed 4 n (number.to l ++ value.to i)) → Stored b₁ b₂ 5 (maybe_number.to (stated_by trail))
       → Stored b₂ b₃ from (many_to reference_word (paired indexes counts)) → Stored b₃ b₄ (words + from) (end_word (words + from + 1) ∷ [])
-      → Stored b b₄ 0 (encode_words (composed numbered))
+      → Stored b b₄ 0 (encode_words (composed trail))
   unfolding encode_words words_then headed one value only many maybe maybe_to
-  composition_stored true from words f e p q r t =
-      let size : size_of (composed true) ≡ words + from + 1 = sym (composition_size true) ∙ omega (arith, f, e) in
+  composition_stored (Some x) from words f e p q r t =
+      let size : size_of (composed (Some x)) ≡ words + from + 1 = sym (composition_size (Some x)) ∙ omega (arith, f, e) in
       rw size (after (words + from) (omega (arith, length-paired indexes counts)) (after from f (after 5 refl p q) r) t)
-  composition_stored false from words f e p q r t =
-      let size : size_of (composed false) ≡ words + from + 1 = sym (composition_size false) ∙ omega (arith, f, e) in
+  composition_stored None from words f e p q r t =
+      let size : size_of (composed None) ≡ words + from + 1 = sym (composition_size None) ∙ omega (arith, f, e) in
       rw size (after (words + from) (omega (arith, length-paired indexes counts)) (after from f (after 5 refl p q) r) t)
 
 pub front_stored : {b b₁ b₂ b₃ b₄ b₅ : List ℕ} (n rule w p L : ℕ) → Stored b b₁ 0 (head.to (record { type = 3; session = n })) → Stored b₁ b₂ 1 (number.to rule)

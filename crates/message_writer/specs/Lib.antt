@@ -1,3 +1,2 @@
 -- What the writers promise.
 pub mod Writing
-pub mod Forms

@@ -1,112 +1,125 @@
-// The six messages written into a lent buffer. Each call answers 2^32 and the number of bytes written, and leaves the bytes after them as they were;
-// or 20, question 20's number, where the message does not fit, and leaves the whole buffer as it was.
+// The six messages written into a lent buffer. Each call answers the number of bytes written, and leaves the bytes after them as they were;
+// or it refuses a message that does not fit, and leaves the whole buffer as it was.
 #![tactic(auto)]
 
 mod put;
 
 ghost use Rattle.std.specs.Prelude.{◌≡◌, ◌*◌};
+ghost use Rattle.refusal.specs.Answer.{answer_of};
 ghost use Rattle.message.specs.Messages.{encode, opening_query, node_query, opening, composition, literal, no_node};
+ghost use Rattle.message.specs.Kinds.{number_of_form};
 ghost use Rattle.message.specs.Reading.{stated_by};
 ghost use Rattle.rows.specs.Rows.{words_of};
 ghost use Rattle.message_writer.specs.Writing.{Written, pair_bytes, first_rows, paired};
-ghost use Rattle.message_writer.specs.Forms.{number_of_form};
 
+use message::kind::Form;
 use message::reader::references_from;
 use put::{
-    Form, put_end, put_front, put_head, put_middle, put_pair, put_references, put_text,
-    put_trail_number, put_values,
+    put_end, put_front, put_head, put_middle, put_pair, put_references, put_text, put_trail_number,
+    put_values,
 };
-
-// Question 20's number: the message does not fit.
-const FULL: u64 = 20;
-
-// What stands above the number of bytes written.
-const WRITTEN: u64 = 4294967296;
+use refusal::Refusal;
 
 // The words of three cells: five values each, three words a value.
 const THREE_CELLS: usize = 45;
 
 // Type 1, an opening query.
-pub fn write_opening_query(buffer: &mut [u8], session: u64) -> u64
-    ensures { Written buffer.old buffer.new (encode (opening_query session)) result }
+pub fn write_opening_query(buffer: &mut [u8], session: u64) -> Result<usize, Refusal>
+    ensures { Written buffer.old buffer.new (encode (opening_query session)) (answer_of result) }
 {
     if buffer.len() / 4 < 2 {
-        return FULL;
+        return Err(Refusal::Buffer);
     }
     put_head(buffer, Form::OpeningQuery, session);
     put_end(buffer, 1);
-    WRITTEN + 8
+    Ok(8)
 }
 
 // A message that says only a node's level and id.
-fn write_pair(buffer: &mut [u8], form: Form, session: u64, level: u64, id: u64) -> u64
-    ensures { Written buffer.old buffer.new (pair_bytes (number_of_form form) session level id) result }
+fn write_pair(
+    buffer: &mut [u8],
+    form: Form,
+    session: u64,
+    level: u64,
+    id: u64,
+) -> Result<usize, Refusal>
+    ensures { Written buffer.old buffer.new (pair_bytes (number_of_form form) session level id) (answer_of result) }
 {
     if buffer.len() / 4 < 6 {
-        return FULL;
+        return Err(Refusal::Buffer);
     }
     put_pair(buffer, form, session, level, id);
     put_end(buffer, 5);
-    WRITTEN + 24
+    Ok(24)
 }
 
 // Type 2, a node query.
 #[tactic(auto, using(crate::proofs::Writing::pair_node_query))]
-pub fn write_node_query(buffer: &mut [u8], session: u64, level: u64, id: u64) -> u64
-    ensures { Written buffer.old buffer.new (encode (node_query session level id)) result }
+pub fn write_node_query(
+    buffer: &mut [u8],
+    session: u64,
+    level: u64,
+    id: u64,
+) -> Result<usize, Refusal>
+    ensures { Written buffer.old buffer.new (encode (node_query session level id)) (answer_of result) }
 {
     write_pair(buffer, Form::NodeQuery, session, level, id)
 }
 
 // Type 6, none: the sender has no such node.
 #[tactic(auto, using(crate::proofs::Writing::pair_no_node))]
-pub fn write_none(buffer: &mut [u8], session: u64, level: u64, id: u64) -> u64
-    ensures { Written buffer.old buffer.new (encode (no_node session level id)) result }
+pub fn write_none(buffer: &mut [u8], session: u64, level: u64, id: u64) -> Result<usize, Refusal>
+    ensures { Written buffer.old buffer.new (encode (no_node session level id)) (answer_of result) }
 {
     write_pair(buffer, Form::NoNode, session, level, id)
 }
 
 // Type 5, a literal with the bytes of the text.
-pub fn write_literal(buffer: &mut [u8], session: u64, level: u64, id: u64, text: &[u8]) -> u64
-    ensures { Written buffer.old buffer.new (encode (literal session level id text.now)) result }
+pub fn write_literal(
+    buffer: &mut [u8],
+    session: u64,
+    level: u64,
+    id: u64,
+    text: &[u8],
+) -> Result<usize, Refusal>
+    ensures { Written buffer.old buffer.new (encode (literal session level id text.now)) (answer_of result) }
 {
     let words = text.len().div_ceil(3);
     let size = words + 6;
     if buffer.len() / 4 < size {
-        return FULL;
+        return Err(Refusal::Buffer);
     }
     put_pair(buffer, Form::Literal, session, level, id);
     put_text(buffer, 5, text);
     put_end(buffer, words + 5);
-    WRITTEN + size as u64 * 4
+    Ok(size * 4)
 }
 
-// Type 4, a composition, with its trail number if it is `numbered`. Reference k has entry k of the indexes and of the counts; there are as
+// Type 4, a composition, with its trail number or without. Reference k has entry k of the indexes and of the counts; there are as
 // many as both have.
 pub fn write_composition(
     buffer: &mut [u8],
     session: u64,
     level: u64,
     id: u64,
-    numbered: bool,
-    number: u64,
+    trail: Option<u64>,
     indexes: &[u64],
     counts: &[u64],
-) -> u64
+) -> Result<usize, Refusal>
     ensures { Written buffer.old buffer.new
-        (encode (composition session level id (stated_by numbered number) (paired indexes.now counts.now))) result }
+        (encode (composition session level id (stated_by trail) (paired indexes.now counts.now))) (answer_of result) }
 {
     let words = indexes.len().min(counts.len());
-    let from = references_from(numbered);
+    let from = references_from(trail);
     let size = words + from + 1;
     if buffer.len() / 4 < size {
-        return FULL;
+        return Err(Refusal::Buffer);
     }
     put_pair(buffer, Form::Composition, session, level, id);
-    put_trail_number(buffer, numbered, number);
+    put_trail_number(buffer, trail);
     put_references(buffer, from, indexes, counts);
     put_end(buffer, words + from);
-    WRITTEN + size as u64 * 4
+    Ok(size * 4)
 }
 
 // Type 3, an opening. Its cells are the first 3q cells of the table, five rows each, in the table's order; a row that the table lacks is 0.
@@ -122,23 +135,23 @@ pub fn write_opening(
     length: u64,
     root: u64,
     cells: &[u8],
-) -> u64
-    ensures { Written buffer.old buffer.new (encode (opening session rule w p levels m q length root (first_rows (q * 3 * 5) 0 (words_of cells.now)))) result }
+) -> Result<usize, Refusal>
+    ensures { Written buffer.old buffer.new (encode (opening session rule w p levels m q length root (first_rows (q * 3 * 5) 0 (words_of cells.now)))) (answer_of result) }
 {
     let words = buffer.len() / 4;
     let most = (words / THREE_CELLS) as u64;
     if most < q {
-        return FULL;
+        return Err(Refusal::Buffer);
     }
     let values = q as usize * 3 * 5;
     let end = values * 3 + 11;
     let size = values * 3 + 12;
     if words < size {
-        return FULL;
+        return Err(Refusal::Buffer);
     }
     put_front(buffer, session, rule, w, p, levels);
     put_middle(buffer, m, q, length, root);
     put_values(buffer, 11, cells, values);
     put_end(buffer, end);
-    WRITTEN + size as u64 * 4
+    Ok(size * 4)
 }

@@ -1,32 +1,14 @@
 // Words put into a buffer, one field at a time. A word that the buffer has no room for is not put.
 ghost use Rattle.std.specs.Prelude.{[], ◌∷◌, ◌++◌, ◌≡◌, ◌+◌, ◌*◌, ◌^◌, ◌<◌, length, drop};
 ghost use Rattle.message.specs.Words.{with_kind, word_of_bytes, end_word, reference_word};
-ghost use Rattle.message.specs.Kinds.{number_of_kind};
+ghost use Rattle.message.specs.Kinds.{number_of_kind, number_of_form};
 ghost use Rattle.message.specs.Fields.{number, maybe_number, value, head, text_to, values_to, many_to};
 ghost use Rattle.message.specs.Messages.{headed};
 ghost use Rattle.message.specs.Reading.{stated_by};
 ghost use Rattle.rows.specs.Rows.{words_of};
 ghost use Rattle.message_writer.specs.Writing.{Stored, first_rows, paired};
-ghost use Rattle.message_writer.specs.Forms.{number_of_form};
 
-use message::kind::Kind;
-
-// What the kind of a word weighs: it stands above the 28 bits that say the rest.
-const KIND_WEIGHT: u64 = 268435456;
-
-// How many sessions there are: their numbers have 24 bits of a head, below the type.
-const SESSIONS: u64 = 16777216;
-
-// What a message is: its type.
-#[derive(Clone, Copy)]
-pub enum Form {
-    OpeningQuery = 1,
-    NodeQuery = 2,
-    Opening = 3,
-    Composition = 4,
-    Literal = 5,
-    NoNode = 6,
-}
+use message::kind::{Form, KIND_WEIGHT, Kind, SESSIONS};
 
 // The word of that kind that says x, modulo 2^28.
 fn word(kind: Kind, x: u64) -> u32
@@ -91,10 +73,10 @@ pub fn put_pair(buffer: &mut [u8], form: Form, session: u64, level: u64, id: u64
 }
 
 // The trail number of a composition in word 5, if it is there.
-pub fn put_trail_number(buffer: &mut [u8], numbered: bool, x: u64)
-    ensures { Stored buffer.old buffer.new 5 (maybe_number.to (stated_by numbered x)) }
+pub fn put_trail_number(buffer: &mut [u8], trail: Option<u64>)
+    ensures { Stored buffer.old buffer.new 5 (maybe_number.to (stated_by trail)) }
 {
-    if numbered {
+    if let Some(x) = trail {
         put_number(buffer, 5, x);
     }
 }

@@ -63,21 +63,12 @@ fn literals<W: Write>(out: &mut W) -> io::Result<()> {
 
 fn composition<W: Write>(
     out: &mut W,
-    number: Option<u64>,
+    trail: Option<u64>,
     indexes: &[u64],
     counts: &[u64],
     buffer: &mut [u8],
 ) -> io::Result<()> {
-    let answer = write_composition(
-        buffer,
-        16777215,
-        3,
-        u64::MAX,
-        number.is_some(),
-        number.unwrap_or(0),
-        indexes,
-        counts,
-    );
+    let answer = write_composition(buffer, 16777215, 3, u64::MAX, trail, indexes, counts);
     show::written(out, answer, buffer)
 }
 

@@ -1,11 +1,9 @@
 // Prints what a writer answered and left, and what the reader finds in it.
 use message::Message;
 use message::reader::{cell_value, copy_bytes, message_type, read, reference_at};
+use refusal::Refusal;
 use std::io;
 use std::io::Write;
-
-// From here on a writer's answer is a yes, and the number of bytes written comes on top.
-const YES: u64 = 4294967296;
 
 // The values of an opening's 3q cells, five each, in one number: twice the last and one value more, modulo 2^64, from 0 on. An opening has
 // at most 64 of these q.
@@ -38,8 +36,10 @@ fn print_bytes<W: Write>(out: &mut W, message: &[u8], at: usize, count: usize) -
 
 // What the message says, type by type. A composition's trail number has a 1 before it; where it is omitted, both are 0.
 fn print_message<W: Write>(out: &mut W, message: &[u8]) -> io::Result<()> {
-    match read(message) {
-        Message::Bad => Ok(()),
+    let Some(read) = read(message) else {
+        return Ok(());
+    };
+    match read {
         Message::OpeningQuery { session } => write!(out, " {session}"),
         Message::NodeQuery { session, level, id } | Message::NoNode { session, level, id } => {
             write!(out, " {session} {level} {id}")
@@ -63,14 +63,15 @@ fn print_message<W: Write>(out: &mut W, message: &[u8]) -> io::Result<()> {
             session,
             level,
             id,
-            numbered,
-            number,
+            trail,
             at,
             count,
         } => {
-            let number = if numbered { number } else { 0 };
             write!(out, " {session} {level} {id}")?;
-            write!(out, " {} {number}", u8::from(numbered))?;
+            match trail {
+                Some(number) => write!(out, " 1 {number}")?,
+                None => write!(out, " 0 0")?,
+            }
             print_references(out, message, at, count)
         }
         Message::Literal {
@@ -88,17 +89,25 @@ fn print_message<W: Write>(out: &mut W, message: &[u8]) -> io::Result<()> {
 
 // A line with the type of the message, as the reader answers it, and what the reader finds.
 pub fn found<W: Write>(out: &mut W, message: &[u8]) -> io::Result<()> {
-    write!(out, "read {}", message_type(message))?;
+    write!(out, "read {}", refusal::answer(message_type(message)))?;
     print_message(out, message)?;
     writeln!(out)
 }
 
 // A line with the writer's answer and FNV-1a of the whole buffer; then, if a message was written, what is found in it.
-pub fn written<W: Write>(out: &mut W, answer: u64, buffer: &[u8]) -> io::Result<()> {
-    writeln!(out, "write {answer} {}", fnv::hash(buffer))?;
-    if answer < YES {
-        return Ok(());
+pub fn written<W: Write>(
+    out: &mut W,
+    answer: Result<usize, Refusal>,
+    buffer: &[u8],
+) -> io::Result<()> {
+    writeln!(
+        out,
+        "write {} {}",
+        refusal::answer(answer),
+        fnv::hash(buffer)
+    )?;
+    match answer {
+        Ok(size) => found(out, &buffer[..buffer.len().min(size)]),
+        Err(_) => Ok(()),
     }
-    let size = buffer.len().min((answer - YES) as usize);
-    found(out, &buffer[..size])
 }

@@ -5,3 +5,4 @@ pub mod Accepted
 pub mod Long
 pub mod Nodes
 pub mod Children
+pub mod Small

@@ -2,10 +2,10 @@
 #![tactic(auto)]
 
 ghost use Rattle.std.specs.Prelude.{◌≡◌, ◌≤◌};
+ghost use Rattle.refusal.specs.Answer.{answer_of};
 ghost use Rattle.most_blocks.specs.Most.{most_blocks_of, in_range, most_answer};
 
-// What an accepted answer adds to its count.
-const ACCEPTED: u64 = 4294967296;
+use refusal::Refusal;
 
 // A cutting makes at most 31 cuts, so that there are at most 32 blocks.
 const MOST_BLOCKS: u64 = 32;
@@ -41,12 +41,12 @@ fn bound(n: u64, w: u64, h: u64) -> u64
     fitting.clamp(1, MOST_BLOCKS)
 }
 
-// 2^32 and the most blocks that one cutting of n bytes by w and h gives; or 24 where a number is out of its range.
-pub fn most_blocks(n: u64, w: u64, h: u64) -> u64
-    ensures { result ≡ most_answer n w h }
+// The most blocks that one cutting of n bytes by w and h gives, if each number is in its range.
+pub fn most_blocks(n: u64, w: u64, h: u64) -> Result<usize, Refusal>
+    ensures { answer_of result ≡ most_answer n w h }
 {
     if !in_range(n, w, h) {
-        return 24;
+        return Err(Refusal::Cutting);
     }
-    ACCEPTED + bound(n, w, h)
+    Ok(bound(n, w, h) as usize)
 }

@@ -8,3 +8,4 @@ pub mod Passing
 pub mod Verdict
 pub mod Ladder
 pub mod Opened
+pub mod Small

@@ -20,7 +20,7 @@ use Rattle.opening.specs.Renewing.{list_of, renew_answer, renew_table, Renewed}
 use Rattle.opening.specs.Opened.{opened_list, Opened}
 
 -- The new list of an opened sketch has at most 4,096 shingles.
-list_few : (list : List Shingle) (p : Peeled) → opens_to list p ≡ true → length (new_list list p.taken) ≤ 4096
+pub list_few : (list : List Shingle) (p : Peeled) → opens_to list p ≡ true → length (new_list list p.taken) ≤ 4096
 unfolding opens_to
 list_few list p e =
     let zs = p.taken in
@@ -68,8 +68,8 @@ module _ (levels width : ℕ) (theirs own shingles : List ℕ) (r : ℕ) (new go
       }
 
 -- A refused sketch changes nothing.
-pub refused : (levels width : ℕ) (theirs own shingles : List ℕ) (r : ℕ) (new gone : List ℕ) → Decided levels width theirs own shingles r new gone
+pub refused : (levels width : ℕ) (theirs own shingles : List ℕ) (r : ℕ) → r ≡ open_refusal levels width theirs own shingles
     → (r ≡ 0 → ⊥) → Opened levels width theirs own shingles shingles r
-refused levels width theirs own shingles r new gone d some =
-    let no : eqb (open_refusal levels width theirs own shingles) 0 ≡ false = ne_eqb _ 0 (λ e. some (d.answer ∙ e)) in
-    record { answer = rw no d.answer; table = rw no refl }
+refused levels width theirs own shingles r is some =
+    let no : eqb (open_refusal levels width theirs own shingles) 0 ≡ false = ne_eqb _ 0 (λ e. some (is ∙ e)) in
+    record { answer = rw no is; table = rw no refl }

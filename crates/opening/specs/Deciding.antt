@@ -1,10 +1,13 @@
 -- Whether a sketch opens over the own shingle list: document 01, 'Questions, in order'.
-use Rattle.std.specs.Prelude.{cond, ◌&&◌, List, [], ◌≡◌, ℕ, ◌*◌, leb, eqb, length}
+use Rattle.std.specs.Prelude.{cond, ◌&&◌, List, [], ◌≡◌, ℕ, ◌*◌, leb, eqb, length, Result, Ok, Err}
 use Rattle.tree.specs.Questions.{within, ask}
 use Rattle.shingle.specs.Table.{shingles_in}
 use Rattle.sketch.specs.Opening.{Signed, taken_of, opens, positives, negatives}
 use Rattle.single.specs.Peeling.{rows_in, list_table}
+use Rattle.opening.specs.declared.Opening.{Opening}
 use Rattle.opening.specs.Steps.{size_refusal}
+use Rattle.refusal.specs.declared.Refusal.{Refusal}
+use Rattle.refusal.specs.Answer.{number_of}
 
 -- 0, or the number of the first question that is answered no: "3 L 1 to 4? .. 5 q 1 to 64? .. 7 lent tables long enough for ..
 -- 4,096 shingles, 3q cells? .. 14 does the sketch open?"
@@ -31,3 +34,8 @@ pub record Decided (levels width : ℕ) (theirs own shingles : List ℕ) (refusa
   pub negative : refusal ≡ 0 → shingles_in gone ≡ negatives (taken_of width levels (rows_in width theirs) (rows_in width own)).taken
   pub new_bytes : new ≡ list_table 4608 (positives (taken_after levels width theirs own shingles))
   pub gone_bytes : gone ≡ list_table 4608 (negatives (taken_after levels width theirs own shingles))
+
+-- The same of an answer: a refusal has no tables.
+abbrev pub Decides : (levels width : ℕ) (theirs own shingles : List ℕ) → Result Opening Refusal → Type 0
+Decides levels width theirs own shingles (Ok opening) = Decided levels width theirs own shingles 0 opening.new opening.gone
+Decides levels width theirs own shingles (Err question) = number_of question ≡ open_refusal levels width theirs own shingles

@@ -4,9 +4,9 @@ ghost use Rattle.shingle.specs.Table.{shingles_in};
 ghost use Rattle.sketch.specs.Opening.{kept};
 ghost use Rattle.opening.specs.Renewing.{Renewed};
 ghost use Rattle.opening.specs.Steps.{Kept, Appended};
+ghost use Rattle.refusal.specs.Answer.{answer_of};
 
-// An accepted answer is this and a count.
-const ACCEPTED: u64 = 4294967296;
+use refusal::Refusal;
 
 // How many shingles of the table's list are not among those that are gone.
 fn count(gone: &[u8], table: &[u8]) -> usize
@@ -52,18 +52,18 @@ fn append(new: &[u8], table: &mut [u8], from: usize)
 }
 
 // Writes the new list into the table.
-pub fn renew(new: &[u8], gone: &[u8], table: &mut [u8]) -> u64
-    ensures { Renewed new.now gone.now table.old table.new result }
+pub fn renew(new: &[u8], gone: &[u8], table: &mut [u8]) -> Result<usize, Refusal>
+    ensures { Renewed new.now gone.now table.old table.new (answer_of result) }
 {
     let old = count(gone, table);
     let more = shingle::size(new);
     let n = old + more;
     if table.len() / 24 < n {
-        return 7;
+        return Err(Refusal::Room);
     }
     keep(gone, table);
     append(new, table, old);
     sort::sort(&mut table[..n * 24]);
     rows::clear(table, n * 24);
-    ACCEPTED + n as u64
+    Ok(n)
 }

@@ -1,30 +1,37 @@
-// The questions that an opening sketch is asked, each answered by its number where it refuses.
+// The questions that an opening sketch is asked.
 ghost use Rattle.std.specs.Prelude.{◌≡◌};
-ghost use Rattle.tree.specs.Questions.{ask};
+ghost use Rattle.refusal.specs.Answer.{refused_by};
 ghost use Rattle.shingle.specs.Table.{shingles_in};
 ghost use Rattle.opening.specs.Steps.{size_refusal, opens_with};
 
 use super::taken;
+use refusal::Refusal;
 
 // A shingle table's room: 4,096 entries of 24 bytes.
 const SHINGLE_BYTES: usize = 98304;
 
 // Questions 3, 5 and 7, of the settings and of the lengths of what is lent.
 #[tactic(auto, unfolding(crate::specs::Steps::size_refusal, tree::specs::Questions::ask))]
-pub fn sizes(levels: u64, width: u64, theirs: usize, own: usize, shingles: usize) -> u64
-    ensures { result ≡ size_refusal levels width theirs own shingles }
+pub fn sizes(
+    levels: u64,
+    width: u64,
+    theirs: usize,
+    own: usize,
+    shingles: usize,
+) -> Result<(), Refusal>
+    ensures { refused_by result ≡ size_refusal levels width theirs own shingles }
 {
     if !(1..=4).contains(&levels) {
-        return 3;
+        return Err(Refusal::Levels);
     }
     if !(1..=64).contains(&width) {
-        return 5;
+        return Err(Refusal::Width);
     }
     let cells = width as usize * 120;
     if theirs < cells || own < cells || shingles < SHINGLE_BYTES {
-        return 7;
+        return Err(Refusal::Room);
     }
-    0
+    Ok(())
 }
 
 // Whether the sketch opens, from what was taken and whether all cells ended at 0. A positive shingle that is in the own list is among
@@ -38,12 +45,4 @@ pub fn opens(empty: bool, new: &[u8], gone: &[u8], own: &[u8]) -> bool
         && taken::all_in(own, gone)
         && taken::none_in(gone, new)
         && pairs::once(new, gone, own)
-}
-
-// Question 14.
-#[tactic(auto, unfolding(tree::specs::Questions::ask))]
-pub fn last(opened: bool) -> u64
-    ensures { result ≡ ask opened 14 0 }
-{
-    if opened { 0 } else { 14 }
 }

@@ -1,7 +1,8 @@
 -- What a call is lent, and the questions that "every later call of either end first asks .. again, of the settings it holds and of
 -- what is lent".
-use Rattle.std.specs.Prelude.{List, ℕ, length}
+use Rattle.std.specs.Prelude.{List, [], ℕ, length}
 use Rattle.tree.specs.declared.Settings.{Settings}
+use Rattle.setup.specs.declared.Lent.{Lent as Tables}
 use Rattle.setup.specs.Questions.{tables_fit, lent_refusal}
 
 -- A string, its three tables, and for a receiver the output, each as the bytes lent.
@@ -14,6 +15,10 @@ pub record Lent : Type 0 where
 
 abbrev pub lent : List ℕ → List ℕ → List ℕ → List ℕ → List ℕ → Lent
 lent string nodes shingles cells output = record { string = string; nodes = nodes; shingles = shingles; cells = cells; output = output }
+
+-- What a call is lent that only reads: the string and the tables, and no output.
+abbrev pub read_only : Tables → Lent
+read_only m = lent m.string.now m.nodes.now m.shingles.now m.cells.now []
 
 -- The same with another output, or with another shingle table.
 abbrev pub with_output : Lent → List ℕ → Lent

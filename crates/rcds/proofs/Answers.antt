@@ -13,10 +13,8 @@ use lib.Seq.{take_at}
 use Rattle.rows.specs.Rows.{words_of}
 use Rattle.rows.proofs.Rows.{length_words}
 use Rattle.tree.specs.Questions.{ask}
-use Rattle.trail.specs.declared.Trail.{Trail}
 use Rattle.trail.specs.Trails.{trail_number, order_of, only_trail}
-use Rattle.trail.specs.declared.Numbered.{Numbered}
-use Rattle.trail.specs.Calls.{numberable, unnumbered, number_answer, orderable, order_answer}
+use Rattle.trail.specs.Calls.{NumberAnswer, OrderAnswer, numberable, unnumbered, number_answer, orderable, order_answer}
 use Rattle.trail.proofs.Answers.{number_small, order_accepted}
 use Rattle.trail.proofs.Orders.{listed_length}
 use Rattle.rcds.specs.Trails.{column, bytes_of_ids, marked, marked_number, trail_number_answer, pairs_in, only_in, size_in, trail_order_refusal, Ordered}
@@ -48,7 +46,7 @@ module _ (ids : List ℕ) where
       let many : ltb (length (words_of ids)) 33 ≡ false = le-ltb (length (words_of ids)) 33 (simp length_words (omega arith)) in
       rw (eq-eqb (length ids % 8) 0 e, some, many)
 
-  pub number_read : (r : ℕ) (list : List ℕ) (order : Numbered) → length ids % 8 ≡ 0 → length ids / 8 ≤ 32 → list ≡ column 32 1 0 (words_of ids)
+  pub number_read : (r : ℕ) (list : List ℕ) (order : NumberAnswer) → length ids % 8 ≡ 0 → length ids / 8 ≤ 32 → list ≡ column 32 1 0 (words_of ids)
       → order ≡ number_answer (take (length ids / 8) list) → r ≡ marked order.answer order.only → r ≡ trail_number_answer ids
   unfolding trail_number_answer
   number_read r list order e h l a m =
@@ -57,10 +55,15 @@ module _ (ids : List ℕ) where
       ∙ (ap (λ (n : ℕ). take n (column 32 1 0 (words_of ids))) (sym (length_words ids)) ∙ column_front (words_of ids) 32 (simp length_words h)) in
       m ∙ (ap marked_number (a ∙ ap number_answer rows) ∙ rw (eq-eqb (length ids % 8) 0 e))
 
+-- A refusal has no mark.
+pub number_unmarked : (n : ℕ) → n ≡ marked n false
+unfolding marked
+number_unmarked n = refl
+
 -- What numbering answers is below the mark.
-pub number_low : (xs : List ℕ) (order : Numbered) → order ≡ number_answer xs → order.answer < 2 ^ 33
+pub number_low : (xs : List ℕ) (order : NumberAnswer) → order ≡ number_answer xs → order.answer < 2 ^ 33
 unfolding number_answer
-number_low xs order e = go (numberable xs) (ap (λ (r : Numbered). r.answer) e)
+number_low xs order e = go (numberable xs) (ap (λ (r : NumberAnswer). r.answer) e)
   where
     go : (t : Bool) → order.answer ≡ (cond t (record { answer = 2 ^ 32 + trail_number xs; only = only_trail xs }) unnumbered).answer → order.answer < 2 ^ 33
     go true a = omega (arith, a, number_small xs)
@@ -84,7 +87,7 @@ module _ (table before : List ℕ) (number : ℕ) where
   order_long e h = refused 17 (rw (eq-eqb (length table % 24) 0 e, lt-leb (length table) 768 h)) (λ z. omega arith)
 
   -- A table of at most 32 whole entries, and the trail that was found over it.
-  module _ (whole : length table % 24 ≡ 0) (few : length table ≤ 768) (trail : Trail) (is : trail ≡ order_answer (pairs_in table) number) where
+  module _ (whole : length table % 24 ≡ 0) (few : length table ≤ 768) (trail : OrderAnswer) (is : trail ≡ order_answer (pairs_in table) number) where
     asked : (b : Bool) → orderable (pairs_in table) number ≡ b
         → trail_order_refusal table number (length before) ≡ ask b 17 (ask (leb (size_in table * 8) (length before)) 20 0)
     unfolding trail_order_refusal ask
@@ -103,11 +106,19 @@ module _ (table before : List ℕ) (number : ℕ) where
     missing false e h = refl
     missing true e h = absurd (omega (arith, size_is e, (order_accepted (pairs_in table) number e).0))
 
-    pub order_none : trail.k ≡ 0 → Ordered table number before before 17
+    answer_none : trail.k ≡ 0 → trail.answer ≡ 17
+    unfolding order_answer
+    answer_none h = let e = missing _ refl h in rw (is, e)
+
+    pub order_none : trail.k ≡ 0 → Ordered table number before before trail.answer
     unfolding ask
     order_none h =
         let e = missing _ refl h in
-        refused 17 (asked false e) (λ z. omega arith)
+        rw (answer_none h) (refused 17 (asked false e) (λ z. omega arith))
+
+    -- An answer above the questions' numbers is that of a trail with ids.
+    pub order_some : 2 ^ 32 ≤ trail.answer → trail.k ≡ 0 → ⊥
+    order_some high h = let low = answer_none h in absurd (omega (arith, high))
 
     -- A trail with ids.
     module _ (some : trail.k ≡ 0 → ⊥) where

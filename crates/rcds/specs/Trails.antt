@@ -2,10 +2,9 @@
 use Rattle.std.specs.Prelude.{Bool, cond, ◌&&◌, List, [], ◌∷◌, ◌++◌, ◌≡◌, ℕ, zero, suc, ◌+◌, ◌*◌, ◌%◌, ◌^◌, eqb, leb, length, get_or, drop}
 use Rattle.rows.specs.Rows.{words_of, bytes_of}
 use Rattle.tree.specs.Questions.{ask}
-use Rattle.trail.specs.declared.Numbered.{Numbered}
 use Rattle.trail.specs.declared.Pairs.{Pairs}
 use Rattle.trail.specs.Trails.{total, order_of, only_over}
-use Rattle.trail.specs.Calls.{number_answer, orderable}
+use Rattle.trail.specs.Calls.{NumberAnswer, number_answer, orderable}
 
 -- So many rows, from a place on and then every `step`; 0 past the table's end.
 unfoldable pub column : ℕ → ℕ → ℕ → List ℕ → List ℕ
@@ -21,7 +20,7 @@ bytes_of_ids (x ∷ xs) = bytes_of x ++ bytes_of_ids xs
 unfoldable pub marked : ℕ → (only : Bool) → ℕ
 marked answer only = cond only (2 ^ 33 + answer) answer
 
-abbrev pub marked_number : Numbered → ℕ
+abbrev pub marked_number : NumberAnswer → ℕ
 marked_number order = marked order.answer order.only
 
 -- The number of the order that ids of 8 bytes give. A length that is no multiple of 8 holds no such ids.

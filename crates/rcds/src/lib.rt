@@ -20,6 +20,9 @@ ghost use Rattle.tree.specs.Table.{Tabled};
 ghost use Rattle.rcds.specs.Calls.{tree_settings, settings_of_call};
 ghost use Rattle.rcds.specs.Trails.{trail_number_answer, Ordered};
 
+use refusal::Refusal;
+use setup::Lent;
+use state::Progress;
 use trail::Pairs;
 use tree::Settings;
 
@@ -34,21 +37,21 @@ pub fn rcds_tree(w: u64, p: u64, levels: u64, nominal: u64, string: &[u8], nodes
         nominal,
         width: 1,
     };
-    tree::cut_string(settings, string, nodes)
+    refusal::answer(tree::cut_string(settings, string, nodes))
 }
 
 // Writes the nodes that share a byte with a range of the string, each with its parent. Asked are 21 and 22.
 pub fn rcds_crossed(string: &[u8], nodes: &[u8], start: u64, size: u64, crossed: &mut [u8]) -> u64
     ensures { Crossed (length string.now) nodes.now start size crossed.old crossed.new result }
 {
-    crossing::crossed(string, nodes, start, size, crossed)
+    refusal::answer(crossing::crossed(string, nodes, start, size, crossed))
 }
 
 // The most blocks that one cutting of n bytes gives. Asked is 24.
 pub fn rcds_most_blocks(n: u64, w: u64, h: u64) -> u64
     ensures { result ≡ most_answer n w h }
 {
-    most_blocks::most_blocks(n, w, h)
+    refusal::answer(most_blocks::most_blocks(n, w, h))
 }
 
 // The number of the order that the ids give, each 8 bytes: 2^32 more than how many trails over its pairs come before it, and 2^33 more
@@ -57,15 +60,17 @@ pub fn rcds_trail_number(ids: &[u8]) -> u64
     ensures { result ≡ trail_number_answer ids.now }
 {
     if ids.len() % 8 != 0 {
-        return 17;
+        return Refusal::Order.number();
     }
     let k = ids.len() / 8;
     if 32 < k {
-        return 17;
+        return Refusal::Order.number();
     }
     let list = ids::read_column(ids, 1, 0);
-    let order = trail::number(&list[..k]);
-    ids::mark(order.answer, order.only)
+    match trail::number(&list[..k]) {
+        Ok(order) => ids::mark(refusal::ACCEPTED + order.place, order.only),
+        Err(refusal) => refusal.number(),
+    }
 }
 
 // Writes the order of a number over pairs: entries of three rows, previous id, own id, count. Asked are 17 and 20. The answer is 2^33
@@ -74,39 +79,37 @@ pub fn rcds_trail_order(pairs: &[u8], number: u64, ids: &mut [u8]) -> u64
     ensures { Ordered pairs.now number ids.old ids.new result }
 {
     if pairs.len() % 24 != 0 {
-        return 17;
+        return Refusal::Order.number();
     }
     if 768 < pairs.len() {
-        return 17;
+        return Refusal::Order.number();
     }
     let previous = ids::read_column(pairs, 3, 0);
     let own = ids::read_column(pairs, 3, 1);
     let count = ids::read_column(pairs, 3, 2);
-    let trail = trail::order(
-        Pairs {
-            previous,
-            own,
-            count,
-        },
-        number,
-    );
+    let pairs = Pairs {
+        previous,
+        own,
+        count,
+    };
+    let trail = match trail::order(pairs, number) {
+        Ok(trail) => trail,
+        Err(refusal) => return refusal.number(),
+    };
     let k = trail.k;
-    if k == 0 {
-        return 17;
-    }
     if ids.len() / 8 < k {
-        return 20;
+        return Refusal::Buffer.number();
     }
     let list = trail.ids;
     ids::write_ids(list, k, ids);
-    ids::mark(trail.answer, trail.only)
+    ids::mark(refusal::ACCEPTED + k as u64, trail.only)
 }
 
 // The type of a well-formed message, 2^32 more, or 10.
 pub fn rcds_message_type(message: &[u8]) -> u64
     ensures { result ≡ type_answer (parse message.now) }
 {
-    message::reader::message_type(message)
+    refusal::answer(message::reader::message_type(message))
 }
 
 // Sets a sender up: fills its three tables from the string, and writes its settings to its state. Asked are 1 to 8.
@@ -132,7 +135,7 @@ pub fn rcds_sender_setup(
         nominal,
         width,
     };
-    sender::setup(settings, string, nodes, shingles, cells, state)
+    refusal::answer(sender::setup(settings, string, nodes, shingles, cells, state))
 }
 
 // Writes a sender's reply to a message. Asked are 1 to 7, 10, 11 and 20.
@@ -148,7 +151,13 @@ pub fn rcds_reply(
     ensures { Replied (settings_in state.now) string.now nodes.now shingles.now
         cells.now message.now out.old out.new result }
 {
-    sender::reply(state, string, nodes, shingles, cells, message, out)
+    let lent = Lent {
+        string,
+        nodes,
+        shingles,
+        cells,
+    };
+    refusal::answer(sender::reply(state, lent, message, out))
 }
 
 // Sets a receiver up: fills its three tables from its own string, and writes the state of a new session. Asked are 1 to 8.
@@ -175,7 +184,7 @@ pub fn rcds_receiver_setup(
         nominal,
         width,
     };
-    held::setup(settings, session, own, nodes, shingles, cells, state)
+    refusal::answer(held::setup(settings, session, own, nodes, shingles, cells, state))
 }
 
 // Writes a receiver's outstanding query. Asked are 1 to 7, 9 and 20.
@@ -190,7 +199,13 @@ pub fn rcds_query(
     ensures { Asked (state_in state.now) own.now nodes.now shingles.now cells.now
         out.old out.new result }
 {
-    held::query(state, own, nodes, shingles, cells, out)
+    let lent = Lent {
+        string: own,
+        nodes,
+        shingles,
+        cells,
+    };
+    refusal::answer(held::query(state, lent, out))
 }
 
 // Takes a message. Asked are 1 to 7, 9 to 11, and 12 to 19.
@@ -206,7 +221,11 @@ pub fn rcds_take(
     ensures { HeldTakes state.old state.new own.now nodes.now shingles.old
         shingles.new cells.now message.now output.old output.new result }
 {
-    held::take(state, own, nodes, shingles, cells, message, output)
+    match held::take(state, own, nodes, shingles, cells, message, output) {
+        Ok(Progress::Going) => 0,
+        Ok(Progress::HandedOver(length)) => refusal::answer(Ok(length)),
+        Err(refusal) => refusal.number(),
+    }
 }
 
 // Opens a sketch over the own shingle list. Asked are 3, 5, 7 of the three tables, and 14.
@@ -219,7 +238,7 @@ pub fn rcds_sketch_open(
 ) -> u64
     ensures { Opened levels width theirs.now own.now shingles.old shingles.new result }
 {
-    opening::open(levels, width, theirs, own, shingles)
+    refusal::answer(opening::open(levels, width, theirs, own, shingles))
 }
 
 // Writes the strata of the shingle table's list. Asked are 1 to 7.
@@ -235,7 +254,16 @@ pub fn rcds_strata_build(
         cells.now []) strata.old strata.new result }
 {
     let settings = sender::settings_of(state);
-    strata::build(settings, string, nodes, shingles, cells, strata)
+    let lent = Lent {
+        string,
+        nodes,
+        shingles,
+        cells,
+    };
+    match strata::build(settings, lent, strata) {
+        Ok(()) => 0,
+        Err(refusal) => refusal.number(),
+    }
 }
 
 // About how many shingles differ, from the other end's strata, the own ones and the own list. Asked are 1 to 7.
@@ -252,5 +280,11 @@ pub fn rcds_strata_estimate(
         cells.now []) theirs.now own.now result }
 {
     let settings = sender::settings_of(state);
-    strata::estimate(settings, string, nodes, shingles, cells, theirs, own)
+    let lent = Lent {
+        string,
+        nodes,
+        shingles,
+        cells,
+    };
+    refusal::answer(strata::estimate(settings, lent, theirs, own))
 }

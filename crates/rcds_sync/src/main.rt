@@ -3,6 +3,7 @@
 #![tactic(auto)]
 
 use anyhow::{Context, Result};
+use state::Progress;
 use std::fs::File;
 use std::io;
 use std::io::{Read, Write};
@@ -16,9 +17,6 @@ const SETTINGS: Settings = Settings {
     width: 64,
 };
 
-// From here on a session's answer is a yes, and the length of the string comes on top.
-const YES: u64 = 4294967296;
-
 // Runs session 1 from one string to a receiver that holds another, and answers the string that the receiver hands over, unless it is
 // refused. The output has room for the string, and the sender's buffer for each of its replies: the longest, a literal of 16,384 bytes, has
 // fewer than 6,000 words.
@@ -30,7 +28,7 @@ fn hand_over<'a>(string: &[u8], own: &[u8], output: &'a mut [u8]) -> Option<&'a 
     let mut own_shingles = [0u8; 98304];
     let mut own_cells = [0u8; 7680];
     let mut buffer = [0u8; 24000];
-    let answer = session::run(
+    let Ok(Progress::HandedOver(size)) = session::run(
         SETTINGS,
         1,
         string,
@@ -43,8 +41,9 @@ fn hand_over<'a>(string: &[u8], own: &[u8], output: &'a mut [u8]) -> Option<&'a 
         &mut own_cells,
         &mut buffer,
         output,
-    );
-    let size = answer.checked_sub(YES)? as usize;
+    ) else {
+        return None;
+    };
     output.get(..size)
 }
 

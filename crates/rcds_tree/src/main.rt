@@ -33,7 +33,8 @@ fn main(rt: HostRuntime) -> io::Result<()> {
     let mut string = Vec::new(alloc);
     rt.stdin().take(16384).read_to_end(&mut string)?;
     let mut nodes = [0u8; 65536];
-    tree::cut_string(SETTINGS, string.as_slice(), &mut nodes);
+    // A refusal is no error here: the table is then without nodes.
+    let _ = tree::cut_string(SETTINGS, string.as_slice(), &mut nodes);
     let mut out = BufWriter::new(alloc, io::writer(&rt))?;
     writeln!(out, "level start length")?;
     print_nodes(&mut out, &nodes)?;

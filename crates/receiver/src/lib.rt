@@ -1,17 +1,22 @@
 // Setting a receiver up, and writing its query.
 #![tactic(auto)]
 
+ghost use Rattle.refusal.specs.Answer.{answer_of};
 ghost use Rattle.receiver.specs.Calls.{ReceiverSetUp, Asked};
 
-use state::{Receiver, Taken};
+use refusal::Refusal;
+use setup::Lent;
+use state::Receiver;
 use tree::Settings;
 
-// An answer from here on is no refusal.
-const ACCEPTED: u64 = 4294967296;
+// A receiver that is set up: how many nodes its string has, and the state that it starts with.
+#[derive(Clone, Copy)]
+pub struct Ready {
+    pub nodes: usize,
+    pub state: Receiver,
+}
 
-// Sets a receiver up: its three tables are filled from its own string. Asked are 1 to 8: the answer is the number of the first that
-// fails, or 2^32 and the number of nodes. The session number is taken modulo 2^24. By a no no state is made: what comes back is the
-// state of zeros, which every call refuses by 1.
+// Sets a receiver up: its three tables are filled from its own string. The session number is taken modulo 2^24. By a no no state is made.
 pub fn setup(
     settings: Settings,
     session: u64,
@@ -19,49 +24,24 @@ pub fn setup(
     nodes: &mut [u8],
     shingles: &mut [u8],
     cells: &mut [u8],
-) -> Taken
+) -> Result<Ready, Refusal>
     ensures { ReceiverSetUp settings session string.now nodes.old nodes.new shingles.old
         shingles.new cells.old cells.new result }
 {
-    let answer = setup::fill_tables(settings, string, nodes, shingles, cells);
-    if answer < ACCEPTED {
-        let none = Settings {
-            window: 0,
-            fan_out: 0,
-            levels: 0,
-            nominal: 0,
-            width: 0,
-        };
-        let state = state::initial(none, 0);
-        return Taken { answer, state };
-    }
+    let count = setup::fill_tables(settings, string, nodes, shingles, cells)?;
     let state = state::initial(settings, session);
-    Taken { answer, state }
+    Ok(Ready {
+        nodes: count,
+        state,
+    })
 }
 
-// Writes the outstanding query. Asked are 1 to 7, 9 and 20: the answer is the number of the first that fails, and the buffer is then as
-// it was; or 2^32 and the number of bytes written, and the bytes after them are untouched.
-pub fn query(
-    state: Receiver,
-    string: &[u8],
-    nodes: &[u8],
-    shingles: &[u8],
-    cells: &[u8],
-    buffer: &mut [u8],
-) -> u64
-    ensures { Asked state string.now nodes.now shingles.now cells.now buffer.old
-        buffer.new result }
+// Writes the outstanding query, once the settings and what is lent are asked again, and answers the number of bytes written. The bytes
+// after them are untouched, and by a no the buffer is as it was.
+pub fn query(state: Receiver, lent: Lent, buffer: &mut [u8]) -> Result<usize, Refusal>
+    ensures { Asked state lent.entry.string.now lent.entry.nodes.now lent.entry.shingles.now lent.entry.cells.now
+        buffer.old buffer.new (answer_of result) }
 {
-    let settings = state.settings;
-    let refused = setup::question(
-        settings,
-        string.len(),
-        nodes.len(),
-        shingles.len(),
-        cells.len(),
-    );
-    if refused != 0 {
-        return refused;
-    }
+    lent.question(state.settings)?;
     state::write_query(state, buffer)
 }

@@ -4,3 +4,4 @@ mod Collecting
 mod Referring
 mod Planning
 mod Replying
+pub mod Within

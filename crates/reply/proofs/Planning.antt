@@ -1,19 +1,18 @@
 -- When a composition is planned, and what the plan then says.
-use Rattle.std.specs.Prelude.{Option}
-use Rattle.std.proofs.Common.{None, Some}
-use mathlib.Core.Bool.{Bool, true, false, cond, not, ◌&&◌}
-use mathlib.Core.List.{List, [], ◌∷◌}
-use mathlib.Core.Option.{some}
-use mathlib.Core.Path.{◌≡◌, refl, ap}
-use Prim.Native.Nat.{ℕ, ◌+◌, ◌-◌, ◌/◌, ◌^◌, ◌≤◌, ◌<◌}
-use native.Mathlib.Omega.{arith}
+use Rattle.std.specs.Prelude.{Option, Result}
+use Rattle.std.specs.Bool.{then_some}
+use Rattle.std.specs.Result.{result_ok}
+use Rattle.std.proofs.Common.{None, Some, Ok, Err, Bool, true, false, cond, not, ◌&&◌, List, [], ◌∷◌, length, ◌≡◌, refl, ap, ◌∙◌, ℕ, ◌+◌, ◌-◌, ◌/◌, ◌^◌, ◌≤◌, ◌<◌, arith}
+use Rattle.std.proofs.Math.Option.{some}
 use borrow.Author.Tests.{lt-ltb, le-ltb}
 use lib.Dec.{ltb}
-use lib.ListN.{length, take, length-take}
+use lib.ListN.{take, length-take}
+use Rattle.refusal.specs.declared.Refusal.{Refusal}
+use Rattle.refusal.proofs.Numbers.{number_small}
 use Rattle.tree.specs.declared.Settings.{Settings}
 use Rattle.shingle.specs.Table.{shingles_in}
 use Rattle.trail.specs.Trails.{trail_number, only_trail}
-use Rattle.trail.specs.Calls.{numberable, unnumbered, number_answer}
+use Rattle.trail.specs.Calls.{NumberAnswer, numbered, numberable, unnumbered, number_answer}
 use Rattle.trail.specs.declared.Numbered.{Numbered}
 use Rattle.message.specs.Reading.{stated_by}
 use Rattle.message_writer.specs.Writing.{paired}
@@ -35,50 +34,56 @@ second_false false b e = refl
 both_true : (a b : Bool) → a ≡ true → b ≡ true → a && b ≡ true
 both_true a b e f = rw (e, f)
 
--- An order's number from the answer to numbering it, and whether it is carried.
+-- An order's number from what numbering it returns, and whether it is carried.
 module _ (ids : List ℕ) where
-  stated_so : (only : Bool) (x : ℕ) → only ≡ only_trail ids → x ≡ trail_number ids → stated_by (not only) x ≡ stated ids
+  stated_so : (only : Bool) (x : ℕ) → only ≡ only_trail ids → x ≡ trail_number ids → stated_by (then_some (not only) x) ≡ stated ids
   unfolding stated
   stated_so true x e f = rw (← e) refl
   stated_so false x e f = rw (← e) (ap some f)
 
-  module _ (order : Numbered) (is : order ≡ number_answer ids) where
-    abbrev answered : Bool → Numbered
-    answered t = cond t (record { answer = 2 ^ 32 + trail_number ids; only = only_trail ids }) unnumbered
+  abbrev answered : Bool → NumberAnswer
+  answered t = cond t (record { answer = 2 ^ 32 + trail_number ids; only = only_trail ids }) unnumbered
 
-    answer_is : order ≡ answered (numberable ids)
+  module _ (r : Result Numbered Refusal) (is : numbered r ≡ number_answer ids) where
+    number_from : numbered r ≡ answered (numberable ids)
     unfolding number_answer
-    answer_is = is
+    number_from = is
 
-    pub no_number : order.answer < 2 ^ 32 → has_number ids ≡ false
+    pub no_number : None ≡ result_ok r → has_number ids ≡ false
     unfolding has_number
-    no_number h = go (numberable ids) answer_is
+    no_number none = go (numberable ids) r number_from none
       where
-        go : (t : Bool) → order ≡ answered t → t && ltb (trail_number ids) 4096 ≡ false
-        go true e = absurd (omega (arith, h, ap (λ (r : Numbered). r.answer) e))
-        go false e = refl
+        go : (t : Bool) (r : Result Numbered Refusal) → numbered r ≡ answered t → None ≡ result_ok r → t && ltb (trail_number ids) 4096 ≡ false
+        go true (Ok order) e none = absurd cc
+        go true (Err question) e none = absurd (omega (arith, number_small question, ap (λ (r : NumberAnswer). r.answer) e))
+        go false r e none = refl
 
-    pub number_above : 2 ^ 32 + 4095 < order.answer → has_number ids ≡ false
-    unfolding has_number
-    number_above h = go (numberable ids) answer_is
-      where
-        go : (t : Bool) → order ≡ answered t → t && ltb (trail_number ids) 4096 ≡ false
-        go true e = le-ltb (trail_number ids) 4096 (omega (arith, h, ap (λ (r : Numbered). r.answer) e))
-        go false e = refl
+    module _ (order : Numbered) (so : Some order ≡ result_ok r) where
+      order_from : (r : Result Numbered Refusal) → Some order ≡ result_ok r → numbered r ≡ answered (numberable ids)
+          → numbered (Ok order) ≡ answered (numberable ids)
+      order_from (Ok o) e from = let same : order ≡ o = cc in rw same from
+      order_from (Err question) e from = absurd cc
 
-    pub number_is : 2 ^ 32 ≤ order.answer → order.answer ≤ 2 ^ 32 + 4095
-        → (has_number ids ≡ true) × (stated_by (not order.only) (order.answer - 2 ^ 32) ≡ stated ids)
-    unfolding has_number
-    number_is low high = go (numberable ids) answer_is
-      where
-        go : (t : Bool) → order ≡ answered t
-            → ((t && ltb (trail_number ids) 4096) ≡ true) × (stated_by (not order.only) (order.answer - 2 ^ 32) ≡ stated ids)
-        go true e =
-            let answer = ap (λ (r : Numbered). r.answer) e in (
-              lt-ltb (trail_number ids) 4096 (omega (arith, high, answer)),
-              stated_so order.only (order.answer - 2 ^ 32) (ap (λ (r : Numbered). r.only) e) (omega (arith, answer)),
-            )
-        go false e = absurd (omega (arith, low, ap (λ (r : Numbered). r.answer) e))
+      pub number_above : 4095 < order.place → has_number ids ≡ false
+      unfolding has_number
+      number_above h = go (numberable ids) (order_from r so number_from)
+        where
+          go : (t : Bool) → numbered (Ok order) ≡ answered t → t && ltb (trail_number ids) 4096 ≡ false
+          go true e = le-ltb (trail_number ids) 4096 (omega (arith, h, ap (λ (r : NumberAnswer). r.answer) e))
+          go false e = refl
+
+      pub number_is : order.place ≤ 4095 → (has_number ids ≡ true) × (stated_by (then_some (not order.only) order.place) ≡ stated ids)
+      unfolding has_number
+      number_is h = go (numberable ids) (order_from r so number_from)
+        where
+          go : (t : Bool) → numbered (Ok order) ≡ answered t
+              → ((t && ltb (trail_number ids) 4096) ≡ true) × (stated_by (then_some (not order.only) order.place) ≡ stated ids)
+          go true e =
+              let answer = ap (λ (r : NumberAnswer). r.answer) e in (
+                lt-ltb (trail_number ids) 4096 (omega (arith, h, answer)),
+                stated_so order.only order.place (ap (λ (r : NumberAnswer). r.only) e) (omega (arith, answer)),
+              )
+          go false e = absurd (omega (arith, ap (λ (r : NumberAnswer). r.answer) e))
 
 paired_few : (xs ys : List ℕ) → length (paired xs ys) ≤ length xs
 unfolding paired
@@ -96,38 +101,38 @@ moved : (σ : Settings) (shingles ids below : List ℕ) (l : ℕ) (p : Option Pl
 moved σ shingles ids below l p e f w = rw (f, ← e) w
 
 -- Children of level l with these ids.
-module _ (shingles : List ℕ) (l : ℕ) (ids : List ℕ) (order : Numbered) (is : order ≡ number_answer ids) where
+module _ (shingles : List ℕ) (l : ℕ) (ids : List ℕ) (r : Result Numbered Refusal) (is : numbered r ≡ number_answer ids) where
   abbrev possible : Bool
   possible = has_number ids && referable (shingles_in shingles) l ids
 
-  pub children_unnumbered : order.answer < 2 ^ 32 → possible ≡ false
-  children_unnumbered h = first_false _ _ (no_number ids order is h)
-
-  pub children_above : 2 ^ 32 + 4095 < order.answer → possible ≡ false
-  children_above h = first_false _ _ (number_above ids order is h)
+  pub children_unnumbered : None ≡ result_ok r → possible ≡ false
+  children_unnumbered none = first_false _ _ (no_number ids r is none)
 
   pub children_unreferable : Referred (refs_of (shingles_in shingles) l ids) None → possible ≡ false
   unfolding referable
   children_unreferable unreferred = second_false (has_number ids) _ unreferred
 
-  pub children_composed : (found : References) → Referred (refs_of (shingles_in shingles) l ids) (Some found) → 2 ^ 32 ≤ order.answer
-      → order.answer ≤ 2 ^ 32 + 4095
-      → Planned possible ids (refs_of (shingles_in shingles) l ids)
-      (Some (record { numbered = not order.only; number = order.answer - 2 ^ 32; references = found }))
-  unfolding referable references_of
-  children_composed found c low high =
-      let number = number_is ids order is low high in
-      let refs = refs_of (shingles_in shingles) l ids in
-      let size = ap length c.refs_are in
-      let short = paired_few (take found.count found.indexes) (take found.count found.counts) in
-      let few : length refs < 33 = omega (arith, size, short, length-take found.count found.indexes, c.few) in (
-        both_true (has_number ids) _ number.0 (both_true (ltb (length refs) 33) _ (lt-ltb (length refs) 33 few) c.low),
-        record {
-          trail_is = number.1;
-          references_are = c.refs_are;
-          writable = record { few = c.few; indexes_room = c.indexes_room; counts_room = c.counts_room };
-        },
-      )
+  module _ (order : Numbered) (so : Some order ≡ result_ok r) where
+    pub children_above : 4095 < order.place → possible ≡ false
+    children_above h = first_false _ _ (number_above ids r is order so h)
+
+    pub children_composed : (found : References) → Referred (refs_of (shingles_in shingles) l ids) (Some found) → order.place ≤ 4095
+        → (carried : Option ℕ) → carried ≡ then_some (not order.only) order.place
+        → Planned possible ids (refs_of (shingles_in shingles) l ids) (Some (record { trail = carried; references = found }))
+    unfolding referable references_of
+    children_composed found c h carried is_carried =
+        let number = number_is ids r is order so h in
+        let refs = refs_of (shingles_in shingles) l ids in
+        let size = ap length c.refs_are in
+        let short = paired_few (take found.count found.indexes) (take found.count found.counts) in
+        let few : length refs < 33 = omega (arith, size, short, length-take found.count found.indexes, c.few) in (
+          both_true (has_number ids) _ number.0 (both_true (ltb (length refs) 33) _ (lt-ltb (length refs) 33 few) c.low),
+          record {
+            trail_is = ap stated_by is_carried ∙ number.1;
+            references_are = c.refs_are;
+            writable = record { few = c.few; indexes_room = c.indexes_room; counts_room = c.counts_room };
+          },
+        )
 
 -- The node of entry k.
 module _ (σ : Settings) (n : ℕ) (nodes shingles : List ℕ) (l k : ℕ) where

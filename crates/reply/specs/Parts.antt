@@ -1,5 +1,7 @@
 -- What the parts of replying promise each other. No public contract cites these.
-use Rattle.std.specs.Prelude.{Bool, true, false, cond, ◌&&◌, List, [], ◌≡◌, ℕ, ◌+◌, ◌-◌, ◌/◌, ◌≤◌, ◌<◌, leb, ltb, eqb, length, take, Option, Result, Ok, Err, MatchOption}
+use Rattle.std.specs.Prelude.{Bool, true, false, cond, ◌&&◌, List, ◌≡◌, ℕ, ◌+◌, ◌-◌, ◌/◌, ◌≤◌, ◌<◌, leb, ltb, eqb, length, take, Option, None, Some, Result, Ok, Err, MatchOption}
+use Rattle.refusal.specs.declared.Refusal.{Refusal}
+use Rattle.refusal.specs.declared.Refusal.TheVariants.{Form, Unexpected}
 use Rattle.tree.specs.declared.Settings.{Settings}
 use Rattle.node_table.specs.Entries.{id_at, level_at, entry_at}
 use Rattle.shingle.specs.Table.{shingles_in}
@@ -7,13 +9,13 @@ use Rattle.message.specs.Words.{Ref}
 use Rattle.message.specs.Messages.{Msg, composition}
 use Rattle.message.specs.Reading.{stated_by}
 use Rattle.message.specs.declared.Message.{Message}
-use Rattle.message.specs.declared.Message.TheVariants.{Bad, OpeningQuery, NodeQuery, Opening, Composition, Literal, NoNode}
+use Rattle.message.specs.declared.Message.TheVariants.{OpeningQuery, NodeQuery, Opening, Composition, Literal, NoNode}
 use Rattle.message_writer.specs.Writing.{paired}
-use Rattle.protocol.specs.Lent.{lent}
+use Rattle.protocol.specs.Lent.{Lent}
 use Rattle.node_table.specs.declared.Entry.{Entry}
 use Rattle.node_table.specs.Nodes.{inside, entries_from, entries_in, from_first}
 use Rattle.protocol.specs.Numbers.{stated}
-use Rattle.protocol.specs.Sender.{child_ids, composable, refs_of, indexed, referable, node_reply, opening_reply}
+use Rattle.protocol.specs.Sender.{child_ids, composable, refs_of, indexed, referable, node_reply}
 use Rattle.reply.specs.declared.child.Children.{Children}
 use Rattle.reply.specs.declared.child.Role.{Role}
 use Rattle.reply.specs.declared.child.Role.TheVariants.{End, Passed, Child}
@@ -22,15 +24,15 @@ use Rattle.reply.specs.declared.query.Query.{Query}
 use Rattle.reply.specs.declared.query.Query.TheVariants as asks
 use Rattle.reply.specs.declared.reference.References.{References}
 
--- What a message that was read asks of a sender, or the number of the question that refuses it.
-abbrev pub query_of_message : Message → Result Query ℕ
-query_of_message Bad = Err 10
-query_of_message (OpeningQuery n) = Ok (asks.Opening n)
-query_of_message (NodeQuery n l i) = Ok (asks.Node (record { session = n; level = l; id = i }))
-query_of_message (Opening n rule w p L M q len root at) = Err 11
-query_of_message (Composition n l i numbered x at count) = Err 11
-query_of_message (Literal n l i at count) = Err 11
-query_of_message (NoNode n l i) = Err 11
+-- What a message that was read asks of a sender, or the question that refuses it.
+abbrev pub query_of_message : Option Message → Result Query Refusal
+query_of_message None = Err Form
+query_of_message (Some (OpeningQuery n)) = Ok (asks.Opening n)
+query_of_message (Some (NodeQuery n l i)) = Ok (asks.Node (record { session = n; level = l; id = i }))
+query_of_message (Some (Opening n rule w p L M q len root at)) = Err Unexpected
+query_of_message (Some (Composition n l i trail at count)) = Err Unexpected
+query_of_message (Some (Literal n l i at count)) = Err Unexpected
+query_of_message (Some (NoNode n l i)) = Err Unexpected
 
 -- The entry lies in a string of n bytes and has that level and id.
 abbrev pub asked : (n l i : ℕ) → Entry → Bool
@@ -75,11 +77,11 @@ references_of p = paired (take p.references.count p.references.indexes) (take p.
 
 -- The composition that a plan says.
 unfoldable pub composed_by : Plan → (session l i : ℕ) → Msg
-composed_by p n l i = composition n l i (stated_by p.numbered p.number) (references_of p)
+composed_by p n l i = composition n l i (stated_by p.trail) (references_of p)
 
 -- The composition of children with these ids by these references.
 pub record Composing (ids : List ℕ) (refs : List Ref) (p : Plan) : Type 0 where
-  pub trail_is : stated_by p.numbered p.number ≡ stated ids
+  pub trail_is : stated_by p.trail ≡ stated ids
   pub references_are : references_of p ≡ refs
   pub writable : Writable p
 
@@ -97,9 +99,6 @@ NodePlanned σ n nodes shingles l k p =
     Planned (composable σ l (ids_below nodes n l k) && referable (shingles_in shingles) (l + 1) (ids_below nodes n l k)) (ids_below nodes n l k)
     (refs_of (shingles_in shingles) (l + 1) (ids_below nodes n l k)) p
 
--- The opening, and the reply to a node query.
-unfoldable pub opening_of : Settings → (string nodes cells : List ℕ) → ℕ → Msg
-opening_of σ string nodes cells n = opening_reply σ (lent string nodes [] cells []) n
-
-unfoldable pub node_reply_of : Settings → (string nodes shingles : List ℕ) → (session l i : ℕ) → Msg
-node_reply_of σ string nodes shingles n l i = node_reply σ string (shingles_in shingles) n l i (from_first (asked (length string) l i) (entries_in nodes))
+-- The reply to a node query.
+unfoldable pub node_reply_of : Settings → Lent → (session l i : ℕ) → Msg
+node_reply_of σ m n l i = node_reply σ m.string (shingles_in m.shingles) n l i (from_first (asked (length m.string) l i) (entries_in m.nodes))

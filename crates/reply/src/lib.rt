@@ -7,39 +7,30 @@ mod plan;
 mod query;
 mod reference;
 
+ghost use Rattle.refusal.specs.Answer.{answer_of};
 ghost use Rattle.reply.specs.Reply.{Replied};
 
 use node::{node_reply, opening};
 use query::{Query, query_of};
+use refusal::Refusal;
+use setup::Lent;
 use tree::Settings;
 
-// Replies to a message. Asked are 1 to 7 of the settings and of what is lent, 10, 11 and 20: the answer is the number of the first
-// that fails, and the buffer is then as it was; or 2^32 and the number of bytes written, and the bytes after them are untouched.
+// Replies to a message: the number of bytes written, and the bytes after them are untouched. Asked are 1 to 7 of the settings and of
+// what is lent, 10, 11 and 20: the first that fails refuses, and the buffer is then as it was.
 pub fn reply(
     settings: Settings,
-    string: &[u8],
-    nodes: &[u8],
-    shingles: &[u8],
-    cells: &[u8],
+    lent: Lent,
     message: &[u8],
     buffer: &mut [u8],
-) -> u64
-    ensures { Replied settings string.now nodes.now shingles.now cells.now
-        message.now buffer.old buffer.new result }
+) -> Result<usize, Refusal>
+    ensures { Replied settings lent.entry.string.now lent.entry.nodes.now lent.entry.shingles.now
+        lent.entry.cells.now message.now buffer.old buffer.new (answer_of result) }
 {
-    let refused = setup::question(
-        settings,
-        string.len(),
-        nodes.len(),
-        shingles.len(),
-        cells.len(),
-    );
-    if refused != 0 {
-        return refused;
-    }
-    match query_of(message::reader::read(message)) {
-        Ok(Query::Opening { session }) => opening(settings, string, nodes, cells, session, buffer),
-        Ok(Query::Node(asked)) => node_reply(settings, string, nodes, shingles, asked, buffer),
-        Err(question) => question,
+    lent.question(settings)?;
+    let query = query_of(message::reader::read(message))?;
+    match query {
+        Query::Opening { session } => opening(settings, lent, session, buffer),
+        Query::Node(asked) => node_reply(settings, lent, asked, buffer),
     }
 }

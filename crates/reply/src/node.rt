@@ -1,30 +1,32 @@
 // The replies: an opening, and what answers a node query.
 ghost use Rattle.std.specs.Prelude.{true, ◌≡◌, length};
+ghost use Rattle.refusal.specs.Answer.{answer_of};
 ghost use Rattle.message.specs.Messages.{encode, literal};
 ghost use Rattle.message_writer.specs.Writing.{Written};
 ghost use Rattle.node_table.specs.Entries.{entry_at};
 ghost use Rattle.node_table.specs.Nodes.{inside};
+ghost use Rattle.protocol.specs.Lent.{read_only};
 ghost use Rattle.protocol.specs.Nodes.{block_in};
-ghost use Rattle.reply.specs.Parts.{Writable, composed_by, opening_of, node_reply_of};
+ghost use Rattle.protocol.specs.Sender.{opening_reply};
+ghost use Rattle.reply.specs.Parts.{Writable, composed_by, node_reply_of};
 
 use crate::plan::{Plan, plan_node};
 use crate::query::NodeQuery;
+use refusal::Refusal;
+use setup::Lent;
 use tree::Settings;
 
 // Writes the opening of a session.
 pub fn opening(
     settings: Settings,
-    string: &[u8],
-    nodes: &[u8],
-    cells: &[u8],
+    lent: Lent,
     session: u64,
     buffer: &mut [u8],
-) -> u64
-    ensures { Written buffer.old buffer.new
-        (encode (opening_of settings string.now nodes.now cells.now session)) result }
+) -> Result<usize, Refusal>
+    ensures { Written buffer.old buffer.new (encode (opening_reply settings (read_only lent.entry) session)) (answer_of result) }
 {
-    let length = string.len() as u64;
-    let root = node_table::node_id(nodes, 0);
+    let length = lent.string.len() as u64;
+    let root = node_table::node_id(lent.nodes, 0);
     message_writer::write_opening(
         buffer,
         session,
@@ -36,31 +38,31 @@ pub fn opening(
         settings.width,
         length,
         root,
-        cells,
+        lent.cells,
     )
 }
 
 // Writes the bytes of the node of entry k.
-fn write_bytes(string: &[u8], nodes: &[u8], asked: NodeQuery, k: usize, buffer: &mut [u8]) -> u64
-    requires { inside (length string.now) (entry_at nodes.now k) ≡ true }
-    ensures { Written buffer.old buffer.new
-        (encode (literal asked.session asked.level asked.id (block_in string.now (entry_at nodes.now k)))) result }
+fn write_bytes(lent: Lent, asked: NodeQuery, k: usize, buffer: &mut [u8]) -> Result<usize, Refusal>
+    requires { inside (length lent.string.now) (entry_at lent.nodes.now k) ≡ true }
+    ensures { Written buffer.old buffer.new (encode (literal asked.session asked.level asked.id
+        (block_in lent.entry.string.now (entry_at lent.entry.nodes.now k)))) (answer_of result) }
 {
-    let start = node_table::node_start(nodes, k) as usize;
-    let length = node_table::node_length(nodes, k) as usize;
+    let start = node_table::node_start(lent.nodes, k) as usize;
+    let length = node_table::node_length(lent.nodes, k) as usize;
     message_writer::write_literal(
         buffer,
         asked.session,
         asked.level,
         asked.id,
-        &string[start..start + length],
+        &lent.string[start..start + length],
     )
 }
 
 // Writes the composition that is planned.
-fn write_references(plan: Plan, asked: NodeQuery, buffer: &mut [u8]) -> u64
+fn write_references(plan: Plan, asked: NodeQuery, buffer: &mut [u8]) -> Result<usize, Refusal>
     requires { Writable plan }
-    ensures { Written buffer.old buffer.new (encode (composed_by plan asked.session asked.level asked.id)) result }
+    ensures { Written buffer.old buffer.new (encode (composed_by plan asked.session asked.level asked.id)) (answer_of result) }
 {
     let count = plan.references.count;
     let indexes = plan.references.indexes;
@@ -70,8 +72,7 @@ fn write_references(plan: Plan, asked: NodeQuery, buffer: &mut [u8]) -> u64
         asked.session,
         asked.level,
         asked.id,
-        plan.numbered,
-        plan.number,
+        plan.trail,
         &indexes[..count],
         &counts[..count],
     )
@@ -80,23 +81,20 @@ fn write_references(plan: Plan, asked: NodeQuery, buffer: &mut [u8]) -> u64
 // Writes what answers a node query.
 pub fn node_reply(
     settings: Settings,
-    string: &[u8],
-    nodes: &[u8],
-    shingles: &[u8],
+    lent: Lent,
     asked: NodeQuery,
     buffer: &mut [u8],
-) -> u64
+) -> Result<usize, Refusal>
     ensures { Written buffer.old buffer.new
-        (encode (node_reply_of settings string.now nodes.now shingles.now asked.session asked.level asked.id)) result }
+        (encode (node_reply_of settings (read_only lent.entry) asked.session asked.level asked.id)) (answer_of result) }
 {
-    let size = string.len();
     let level = asked.level;
-    let k = node_table::find(nodes, size, level, level, asked.id);
-    if node_table::node_id(nodes, k) == 0 {
+    let k = node_table::find(lent.nodes, lent.string.len(), level, level, asked.id);
+    if node_table::node_id(lent.nodes, k) == 0 {
         return message_writer::write_none(buffer, asked.session, level, asked.id);
     }
-    if let Some(plan) = plan_node(settings, size, nodes, shingles, level, k) {
+    if let Some(plan) = plan_node(settings, lent, level, k) {
         return write_references(plan, asked, buffer);
     }
-    write_bytes(string, nodes, asked, k, buffer)
+    write_bytes(lent, asked, k, buffer)
 }

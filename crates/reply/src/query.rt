@@ -3,11 +3,7 @@ ghost use Rattle.std.specs.Prelude.{◌≡◌};
 ghost use Rattle.reply.specs.Parts.{query_of_message};
 
 use message::Message;
-
-// The questions that refuse a message: whether it is well formed, and whether it asks anything of a sender.
-const WELL_FORMED: u64 = 10;
-
-const ASKS_A_SENDER: u64 = 11;
+use refusal::Refusal;
 
 // A node that is asked for in a session.
 #[derive(Clone, Copy, PartialEq, Eq)]
@@ -24,21 +20,17 @@ pub enum Query {
     Node(NodeQuery),
 }
 
-// What the answer of the reader asks, or the number of the question that refuses the message.
-pub fn query_of(m: Message) -> Result<Query, u64>
-    ensures { result ≡ query_of_message m }
+// What the answer of the reader asks. Refused are a message that is not well formed, and one that asks nothing of a sender.
+pub fn query_of(message: Option<Message>) -> Result<Query, Refusal>
+    ensures { result ≡ query_of_message message }
 {
-    match m {
-        Message::Bad => Err(WELL_FORMED),
+    match message.ok_or(Refusal::Form)? {
         Message::OpeningQuery { session } => Ok(Query::Opening { session }),
         Message::NodeQuery { session, level, id } => Ok(Query::Node(NodeQuery {
             session,
             level,
             id,
         })),
-        Message::Opening { .. } => Err(ASKS_A_SENDER),
-        Message::Composition { .. } => Err(ASKS_A_SENDER),
-        Message::Literal { .. } => Err(ASKS_A_SENDER),
-        Message::NoNode { .. } => Err(ASKS_A_SENDER),
+        _ => Err(Refusal::Unexpected),
     }
 }

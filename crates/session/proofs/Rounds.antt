@@ -10,7 +10,7 @@ use Rattle.protocol.specs.Lent.{Lent}
 use Rattle.protocol.specs.State.{State}
 use Rattle.state.specs.declared.Receiver.{Receiver}
 use Rattle.state.specs.declared.Taken.{Taken}
-use Rattle.state.specs.Receivers.{state_of}
+use Rattle.state.specs.Receivers.{state_of, progress_number}
 use Rattle.session.specs.Session.{Standing, standing, round, rounds, end_of}
 use Rattle.session.specs.Calls.{Stands, Exchanged, Ends, ExchangedAll}
 
@@ -44,7 +44,7 @@ one_round : (budget : ℕ) (σ : Settings) (theirs : Lent) (s : State) (m : Lent
 unfolding rounds
 one_round budget σ theirs s m buffer = refl
 
-ends_by : {all now : Standing} {ours : Lent} {buffer : List ℕ} {r : Taken} → now ≡ all → Stands now ours buffer r → Ends (end_of all) ours buffer r.answer
+ends_by : {all now : Standing} {ours : Lent} {buffer : List ℕ} {r : Taken} → now ≡ all → Stands now ours buffer r → Ends (end_of all) ours buffer (progress_number r.answer)
 ends_by e stands = rw (← e) (record { answer = stands.answer; memory = stands.memory; buffer_is = stands.buffer_is })
 
 ends_now : {all : Standing} {s : State} {ours : Lent} {buffer : List ℕ} → standing 0 s ours buffer ≡ all → Ends (end_of all) ours buffer 0
@@ -58,14 +58,14 @@ module _ {σ : Settings} {theirs ours₀ : Lent} {buffer₀ : List ℕ} {s₀ : 
   used_up {budget = suc budget} going none = absurd (omega (arith, none))
 
   module _ {ours' : Lent} {buffer' : List ℕ} {r : Taken} (exchanged : Exchanged σ s theirs ours ours' buffer buffer' r) where
-    pub last_round : {budget : ℕ} → Going σ theirs ours₀ buffer₀ s₀ ours buffer s budget → 0 < budget → (r.answer ≡ 0 → ⊥)
-        → ExchangedAll σ s₀ theirs ours₀ ours' buffer₀ buffer' r.answer
+    pub last_round : {budget : ℕ} → Going σ theirs ours₀ buffer₀ s₀ ours buffer s budget → 0 < budget → (progress_number r.answer ≡ 0 → ⊥)
+        → ExchangedAll σ s₀ theirs ours₀ ours' buffer₀ buffer' (progress_number r.answer)
     last_round {budget = zero} going some last = absurd (omega (arith, some))
     last_round {budget = suc budget} going some last =
         let stop = rounds_stop budget σ theirs _ (λ e. last (exchanged.stands.answer ∙ e)) in
         record { ends = ends_by (sym stop ∙ (sym (one_round budget σ theirs _ _ _) ∙ going.is)) exchanged.stands }
 
-    pub next_round : {budget : ℕ} (left : ℕ) → Going σ theirs ours₀ buffer₀ s₀ ours buffer s budget → budget ≡ suc left → r.answer ≡ 0
+    pub next_round : {budget : ℕ} (left : ℕ) → Going σ theirs ours₀ buffer₀ s₀ ours buffer s budget → budget ≡ suc left → progress_number r.answer ≡ 0
         → length ours'.shingles ≡ length ours.shingles → length buffer' ≡ length buffer → length ours'.output ≡ length ours.output
         → Going σ theirs ours₀ buffer₀ s₀ ours' buffer' r.state left
     next_round left going more goes a b c =

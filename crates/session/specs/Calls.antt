@@ -5,12 +5,12 @@ use Rattle.tree.specs.declared.Settings.{Settings}
 use Rattle.protocol.specs.Lent.{Lent}
 use Rattle.state.specs.declared.Receiver.{Receiver}
 use Rattle.state.specs.declared.Taken.{Taken}
-use Rattle.state.specs.Receivers.{state_of}
+use Rattle.state.specs.Receivers.{state_of, progress_number}
 use Rattle.session.specs.Session.{Standing, standing, round, rounds, filled, Ending, end_of, session_between}
 
 -- What a round answers and leaves is where the session stands.
 pub record Stands (now : Standing) (ours : Lent) (buffer : List ℕ) (r : Taken) : Type 0 where
-  pub answer : r.answer ≡ now.answer
+  pub answer : progress_number r.answer ≡ now.answer
   pub state : state_of r.state ≡ now.state
   pub memory : ours ≡ now.lent
   pub buffer_is : buffer ≡ now.buffer

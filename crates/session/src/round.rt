@@ -1,24 +1,26 @@
 // Rounds of a session: the receiver asks, the sender replies, the receiver takes the reply.
 ghost use Rattle.std.specs.Prelude.{[]};
-ghost use Rattle.protocol.specs.Lent.{lent};
+ghost use Rattle.protocol.specs.Lent.{lent, read_only};
 ghost use Rattle.session.specs.Calls.{Exchanged, ExchangedAll};
+ghost use Rattle.state.specs.Receivers.{progress_number};
 
-use crate::ACCEPTED;
-use state::{Receiver, Taken};
+use refusal::Refusal;
+use setup::Lent;
+use state::{Progress, Receiver, Taken};
 use tree::Settings;
 
 // The opening's round, and one for each node reply that question 15 allows.
 const ROUNDS: u64 = 4097;
 
-// One round. What refuses first, the query, the reply or the taking, gives the answer; a query or a reply that is refused leaves the
-// state as it was.
+// The longest query has six words.
+const QUERY_BYTES: usize = 24;
+
+// One round over what the sender lends and what the receiver does. What refuses first, the query, the reply or the taking, gives the answer;
+// a query or a reply that is refused leaves the state as it was.
 pub fn exchange(
     settings: Settings,
     state: Receiver,
-    string: &[u8],
-    nodes: &[u8],
-    shingles: &[u8],
-    cells: &[u8],
+    theirs: Lent,
     own: &[u8],
     own_nodes: &[u8],
     own_shingles: &mut [u8],
@@ -26,36 +28,36 @@ pub fn exchange(
     buffer: &mut [u8],
     output: &mut [u8],
 ) -> Taken
-    ensures { Exchanged settings state (lent string.now nodes.now shingles.now cells.now [])
+    ensures { Exchanged settings state (read_only theirs.entry)
         (lent own.now own_nodes.now own_shingles.old own_cells.now output.old)
         (lent own.now own_nodes.now own_shingles.new own_cells.now output.new)
         buffer.old buffer.new result }
 {
-    let mut query = [0u8; 24];
-    let asked = receiver::query(state, own, own_nodes, own_shingles, own_cells, &mut query);
-    if asked < ACCEPTED {
-        return Taken {
-            answer: asked,
-            state,
-        };
-    }
-    let size = (asked - ACCEPTED) as usize;
-    let replied = reply::reply(
-        settings,
-        string,
-        nodes,
-        shingles,
-        cells,
-        &query[..size],
-        buffer,
-    );
-    if replied < ACCEPTED {
-        return Taken {
-            answer: replied,
-            state,
-        };
-    }
-    let count = (replied - ACCEPTED) as usize;
+    let held = Lent {
+        string: own,
+        nodes: own_nodes,
+        shingles: own_shingles,
+        cells: own_cells,
+    };
+    let mut query = [0u8; QUERY_BYTES];
+    let size = match receiver::query(state, held, &mut query) {
+        Ok(size) => size,
+        Err(refusal) => {
+            return Taken {
+                answer: Err(refusal),
+                state,
+            };
+        }
+    };
+    let count = match reply::reply(settings, theirs, &query[..size], buffer) {
+        Ok(count) => count,
+        Err(refusal) => {
+            return Taken {
+                answer: Err(refusal),
+                state,
+            };
+        }
+    };
     taking::take(
         state,
         own,
@@ -67,35 +69,29 @@ pub fn exchange(
     )
 }
 
-// Rounds, 4,097 at most, until one answers something else than 0.
+// Rounds, 4,097 at most, as long as the session goes on.
 pub fn exchange_all(
     settings: Settings,
     start: Receiver,
-    string: &[u8],
-    nodes: &[u8],
-    shingles: &[u8],
-    cells: &[u8],
+    theirs: Lent,
     own: &[u8],
     own_nodes: &[u8],
     own_shingles: &mut [u8],
     own_cells: &[u8],
     buffer: &mut [u8],
     output: &mut [u8],
-) -> u64
-    ensures { ExchangedAll settings start (lent string.now nodes.now shingles.now cells.now [])
+) -> Result<Progress, Refusal>
+    ensures { ExchangedAll settings start (read_only theirs.entry)
         (lent own.now own_nodes.now own_shingles.old own_cells.now output.old)
         (lent own.now own_nodes.now own_shingles.new own_cells.now output.new)
-        buffer.old buffer.new result }
+        buffer.old buffer.new (progress_number result) }
 {
     let mut state = start;
     for _round in 0..ROUNDS {
         let taken = exchange(
             settings,
             state,
-            string,
-            nodes,
-            shingles,
-            cells,
+            theirs,
             own,
             own_nodes,
             own_shingles,
@@ -103,11 +99,10 @@ pub fn exchange_all(
             buffer,
             output,
         );
-        let answer = taken.answer;
-        if answer != 0 {
-            return answer;
+        match taken.answer? {
+            Progress::Going => state = taken.state,
+            Progress::HandedOver(length) => return Ok(Progress::HandedOver(length)),
         }
-        state = taken.state;
     }
-    0
+    Ok(Progress::Going)
 }

@@ -3,3 +3,4 @@ pub mod Questions
 pub mod Sizes
 pub mod Outcome
 pub mod Accepted
+pub mod Small

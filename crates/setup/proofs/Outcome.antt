@@ -8,6 +8,9 @@ use native.Mathlib.Omega.{arith}
 use borrow.Author.Tests.{eq-eqb, ne_eqb, le-leb}
 use lib.Dec.{leb, eqb}
 use lib.ListN.{length, replicate}
+use Rattle.refusal.specs.declared.Refusal.{Refusal}
+use Rattle.refusal.specs.Answer.{number_of}
+use Rattle.refusal.proofs.Numbers.{number_small, number_nonzero}
 use Rattle.rows.specs.Rows.{clear_from}
 use Rattle.entries.specs.Entries.{table_bytes}
 use Rattle.tree.specs.declared.Settings.{Settings}
@@ -111,6 +114,22 @@ module _ (σ : Settings) (string nodes shingles cells : List ℕ) (other : Bool)
         go : (b : Bool) → leb (length (nodes_of σ string)) 4096 ≡ b → P
         go true t = let e : refused_by ≡ 0 = last_question true t in few e (at_zero e)
         go false t = let e : refused_by ≡ 8 = last_question false t in many e (at_eight e)
+
+    -- Of the questions, 8 alone.
+    pub only_count : (q : Refusal) → r ≡ number_of q → r ≡ 8
+    only_count q e = either (r ≡ 8) (λ z k. absurd (omega (arith, number_small q, e, k))) (λ z k. k)
+
+    -- The two tables that are filled from the nodes are long enough.
+    pub shingles_pass : (shingles' : List ℕ) (q : Refusal) → shingle.Filled nodes' shingles shingles' (number_of q) → ⊥
+    unfolding shingle.fill_answer
+    shingles_pass shingles' q s =
+        let e : number_of q ≡ 2 ^ 32 + length (shingles_of (nodes_in nodes')) = s.answer ∙ rw (le-leb 98304 (length shingles) long.shingle_room) in
+        absurd (omega (arith, number_small q, e))
+
+    pub cells_pass : (shingles' cells' : List ℕ) (q : Refusal) → sketch.Filled σ.width shingles' cells cells' (number_of q) → ⊥
+    unfolding sketch.fill_answer
+    cells_pass shingles' cells' q c =
+        number_nonzero q (c.answer ∙ rw (le-leb 1 σ.width long.width_low, le-leb σ.width 64 long.width_high, le-leb (σ.width * 120) (length cells) long.cell_room))
 
     pub refused_count : r ≡ 8 → (shingles' cells' : List ℕ) → shingles' ≡ clear_from shingles 0 → cells' ≡ clear_from cells 0
         → SetUp σ string other nodes nodes' shingles shingles' cells cells' 8

@@ -6,7 +6,10 @@ mod merge;
 mod pairs;
 
 ghost use Rattle.std.specs.Prelude.{◌≡◌, length};
+ghost use Rattle.refusal.specs.Answer.{answer_of};
 ghost use Rattle.shingle.specs.Table.{Filled, shingle_in_table, shingles_in, holds};
+
+use refusal::Refusal;
 
 // An entry's size in bytes.
 const ENTRY: usize = 24;
@@ -19,9 +22,6 @@ const ROOM: usize = NODES * ENTRY;
 // In an entry's tail the level stands above the count, from here on.
 const LEVEL: u64 = 65536;
 
-// What an answer adds to the number of shingles.
-const FILLED: u64 = 4294967296;
-
 // Document 01's shingle: a pair of neighbours' ids at a level, and how many nodes of the level give it.
 #[derive(Clone, Copy, PartialEq, Eq)]
 pub struct Shingle {
@@ -32,17 +32,17 @@ pub struct Shingle {
 }
 
 // Fills the shingle table with the sorted list of the node table's shingles, zero past its end. A shingle table without room
-// for 4,096 is left as it is. The answer is then 7, else 2^32 and the number of shingles.
-pub fn fill_shingles(nodes: &[u8], shingles: &mut [u8]) -> u64
-    ensures { Filled nodes.now shingles.old shingles.new result }
+// for 4,096 is refused and left as it is. The answer is the number of shingles.
+pub fn fill_shingles(nodes: &[u8], shingles: &mut [u8]) -> Result<usize, Refusal>
+    ensures { Filled nodes.now shingles.old shingles.new (answer_of result) }
 {
     if shingles.len() < ROOM {
-        return 7;
+        return Err(Refusal::Room);
     }
     let n = pairs::write_pairs(nodes, shingles);
     let m = merge::arrange(&mut shingles[..n * ENTRY]);
     rows::clear(shingles, m * ENTRY);
-    FILLED + m as u64
+    Ok(m)
 }
 
 // Entry k of a shingle table.

@@ -6,11 +6,13 @@ mod hashing;
 mod width;
 
 ghost use Rattle.std.specs.Prelude.{◌≡◌};
+ghost use Rattle.refusal.specs.Answer.{refused_by};
 ghost use Rattle.sketch.specs.Cells.{tag_of, Filled};
 ghost use Rattle.sketch.specs.Opening.{signed};
 ghost use Rattle.sketch.specs.Putting.{put_in};
 ghost use Rattle.sketch.specs.Sums.{subtracted};
 
+use refusal::Refusal;
 use shingle::Shingle;
 pub use width::Width;
 
@@ -21,21 +23,21 @@ pub fn tag(j: u8, s: Shingle) -> u64
     hashing::tag(j, s)
 }
 
-// Fills the cell table with the 3q cells of the shingle table's list, zero past them, and answers 0. Where q is not 1 to 64 the
-// answer is 5, where the cell table is too short it is 7, and the cell table is left as it is.
-pub fn fill_cells(q: u64, shingles: &[u8], cells: &mut [u8]) -> u64
-    ensures { Filled q shingles.now cells.old cells.new result }
+// Fills the cell table with the 3q cells of the shingle table's list, zero past them. A q that is not 1 to 64 is
+// refused, and then a cell table that is too short; that table is left as it is.
+pub fn fill_cells(q: u64, shingles: &[u8], cells: &mut [u8]) -> Result<(), Refusal>
+    ensures { Filled q shingles.now cells.old cells.new (refused_by result) }
 {
     let Some(width) = Width::new(q) else {
-        return 5;
+        return Err(Refusal::Width);
     };
     let size = width.bytes();
     if cells.len() < size {
-        return 7;
+        return Err(Refusal::Room);
     }
     rows::clear(cells, 0);
     adding::add_all(&mut cells[..size], width, shingles);
-    0
+    Ok(())
 }
 
 // Puts a shingle into its three cells with a sign: each of its five values is added, or subtracted where it is negative, modulo

@@ -3,3 +3,4 @@ pub mod Nine
 pub mod Pushing
 pub mod Asking
 pub mod Keeping
+pub mod Small

@@ -1,10 +1,14 @@
 -- The state that a receiver's struct stands for, and the struct that a state is kept in.
-use Rattle.std.specs.Prelude.{Bool, ◌&&◌, List, [], ◌∷◌, ◌≡◌, ℕ, zero, suc, leb, length, replicate, set}
+use Rattle.std.specs.Prelude.{Bool, ◌&&◌, List, [], ◌∷◌, ◌≡◌, ℕ, zero, suc, ◌+◌, ◌^◌, leb, length, replicate, set, Result, Ok, Err}
 use Rattle.tree.specs.declared.Settings.{Settings}
 use Rattle.copying.specs.declared.Waiting.{Waiting}
 use Rattle.copying.specs.Copying.{pile_of}
 use Rattle.protocol.specs.State.{Pending, Phase, unopened, opened, ended, State, initial, live, shallow}
+use Rattle.refusal.specs.declared.Refusal.{Refusal}
+use Rattle.refusal.specs.Answer.{number_of}
 use Rattle.state.specs.declared.Receiver.{Receiver}
+use Rattle.state.specs.declared.Progress.{Progress}
+use Rattle.state.specs.declared.Progress.TheVariants.{Going, HandedOver}
 
 -- The phase of a number: 0, 1, or any other.
 unfoldable pub phase_of : ℕ → Phase
@@ -75,3 +79,10 @@ pub record Holds (s : State) (r : Receiver) : Type 0 where
 unfoldable pub runs : (levels phase waiting : ℕ) → List Waiting → Bool
 runs levels phase waiting places =
     live (phase_of phase) (pile_of waiting places) && (leb (length (pile_of waiting places)) 128 && shallow levels (pile_of waiting places))
+
+-- An answer in numbers: 0 while the session goes on, 2^32 and the length of a string that is handed over, or the number of the question
+-- that refuses.
+abbrev pub progress_number : Result Progress Refusal → ℕ
+progress_number (Ok Going) = 0
+progress_number (Ok (HandedOver size)) = 2 ^ 32 + size
+progress_number (Err question) = number_of question

@@ -5,6 +5,7 @@ mod pile;
 mod question;
 
 ghost use Rattle.std.specs.Prelude.{◌≡◌};
+ghost use Rattle.refusal.specs.Answer.{answer_of};
 ghost use Rattle.copying.specs.Copying.{pile_of};
 ghost use Rattle.protocol.specs.State.{initial, going, over, running};
 ghost use Rattle.state.specs.Asking.{Asks, Queried};
@@ -12,10 +13,11 @@ ghost use Rattle.state.specs.Pushing.{Pushes};
 ghost use Rattle.state.specs.Receivers.{state_of, idle, Holds};
 
 use copying::Waiting;
+use refusal::Refusal;
 use tree::Settings;
 
 // Phase 0: no opening taken yet; 1: an opening taken; any other: the session ended, which is written as 2. The first `waiting` of the
-// places are the pending nodes, the last of them the top.
+// places are the pending nodes, the last of them the top. A number and no enum, since a state that a caller holds may have any.
 #[derive(Clone, Copy)]
 pub struct Receiver {
     pub settings: Settings,
@@ -29,18 +31,24 @@ pub struct Receiver {
     pub pile: [Waiting; 128],
 }
 
-// A query that a receiver has outstanding: kind 0 none, 1 the opening's, 2 that of a node with this level and id.
+// A query that a receiver has outstanding: the opening's, or that of a node with this level and id.
 #[derive(Clone, Copy)]
-pub struct Outstanding {
-    pub kind: u64,
-    pub level: u64,
-    pub id: u64,
+pub enum Outstanding {
+    Opening,
+    Node { level: u64, id: u64 },
+}
+
+// What an accepted message comes to: the session goes on, or a string of so many bytes is handed over.
+#[derive(Clone, Copy)]
+pub enum Progress {
+    Going,
+    HandedOver(usize),
 }
 
 // What a call answers, and the state after it.
 #[derive(Clone, Copy)]
 pub struct Taken {
-    pub answer: u64,
+    pub answer: Result<Progress, Refusal>,
     pub state: Receiver,
 }
 
@@ -115,46 +123,39 @@ pub fn running(state: Receiver) -> bool
 }
 
 // The outstanding query: the opening's while none is taken, then the top node's. A session that is not running has none.
-pub fn query(state: Receiver) -> Outstanding
+pub fn query(state: Receiver) -> Option<Outstanding>
     ensures { Asks state result }
 {
     if !running(state) {
-        return Outstanding {
-            kind: 0,
-            level: 0,
-            id: 0,
-        };
+        return None;
     }
     if state.phase == 0 {
-        return Outstanding {
-            kind: 1,
-            level: 0,
-            id: 0,
-        };
+        return Some(Outstanding::Opening);
     }
     let pile = state.pile;
     let waiting = state.waiting;
     let top = pile[waiting - 1];
-    Outstanding {
-        kind: 2,
+    Some(Outstanding::Node {
         level: top.level,
         id: top.id,
-    }
+    })
 }
 
-// Writes the outstanding query into a buffer and answers 2^32 and the number of bytes written. The bytes after them are untouched. Where
-// there is none the answer is 9, where it does not fit 20, and the buffer is then as it was.
-pub fn write_query(state: Receiver, buffer: &mut [u8]) -> u64
-    ensures { Queried state buffer.old buffer.new result }
+// Writes the outstanding query into a buffer and answers the number of bytes written. The bytes after them are untouched. Where there is
+// none, or it does not fit, the buffer is as it was.
+pub fn write_query(state: Receiver, buffer: &mut [u8]) -> Result<usize, Refusal>
+    ensures { Queried state buffer.old buffer.new (answer_of result) }
 {
-    let asked = query(state);
-    if asked.kind == 1 {
-        return message_writer::write_opening_query(buffer, state.session);
+    match query(state) {
+        None => Err(Refusal::Session),
+        Some(Outstanding::Opening) => message_writer::write_opening_query(buffer, state.session),
+        Some(Outstanding::Node { level, id }) => message_writer::write_node_query(
+            buffer,
+            state.session,
+            level,
+            id,
+        ),
     }
-    if asked.kind == 2 {
-        return message_writer::write_node_query(buffer, state.session, asked.level, asked.id);
-    }
-    9
 }
 
 // Puts the first `count` ids on the pile as pending nodes of that level, the first of them on top. Where there are more than 32, or

@@ -1,4 +1,5 @@
--- Laws of strata: the stratum of a hash, building, the questions, whether a stratum opens, the sum, and what the estimate is worth.
+-- Laws of strata: the stratum of a hash, building, the questions, whether a stratum opens, the sum, what the estimate is worth, and that
+-- 64 bits hold it.
 pub mod Capped
 pub mod Building
 pub mod Parts
@@ -10,3 +11,4 @@ pub mod Summing
 pub mod Itself
 pub mod Counting
 pub mod Exact
+pub mod Small

@@ -1,4 +1,5 @@
 -- Questions 1 to 7 where 7 asks of the strata too: each way out is a case of the definition.
+use Rattle.std.proofs.Common.{inl, inr, ◌⊎◌}
 use mathlib.Core.Bool.{Bool, true, false, ◌&&◌}
 use mathlib.Core.List.{List, ◌++◌}
 use mathlib.Core.Path.{◌≡◌, refl, sym, ap, ◌∙◌}
@@ -82,12 +83,11 @@ module _ (σ : Settings) (m : Lent) (r : ℕ) (is : r ≡ refused_by σ m) where
     pub not_estimated : (r ≡ 0 → ⊥) → Estimated σ m theirs own r
     not_estimated fails = unestimated r (asked_before fit fails) fails
 
-    pub theirs_short : r ≡ 0 → length theirs < strata_bytes → Estimated σ m theirs own 7
-    theirs_short z h = unestimated 7 (sym (seven fit z (rw (lt-leb strata_bytes (length theirs) h)))) (λ e. omega (arith, e))
-
-    pub own_short : r ≡ 0 → strata_bytes ≤ length theirs → length own < strata_bytes → Estimated σ m theirs own 7
-    own_short z h k =
-        unestimated 7 (sym (seven fit z (rw (le-leb strata_bytes (length theirs) h, lt-leb strata_bytes (length own) k)))) (λ e. omega (arith, e))
+    pub one_short : r ≡ 0 → (length theirs < strata_bytes) ⊎ ((strata_bytes ≤ length theirs) × (length own < strata_bytes))
+        → Estimated σ m theirs own 7
+    one_short z (inl h) = unestimated 7 (sym (seven fit z (rw (lt-leb strata_bytes (length theirs) h)))) (λ e. omega (arith, e))
+    one_short z (inr h) =
+        unestimated 7 (sym (seven fit z (rw (le-leb strata_bytes (length theirs) h.0, lt-leb strata_bytes (length own) h.1)))) (λ e. omega (arith, e))
 
     pub estimated : r ≡ 0 → strata_bytes ≤ length theirs → strata_bytes ≤ length own
         → (sum : ℕ) → sum ≡ estimate_of σ.levels theirs own (shingles_in m.shingles) → Estimated σ m theirs own (4294967296 + sum)

@@ -52,7 +52,7 @@ fn open_stratum(levels: u64, theirs: &[u8], own: &[u8], shingles: &[u8], i: usiz
 }
 
 // The sum of what the strata list, from the highest down; at the first that does not open, times 2 for it and for each below it.
-pub fn sum(levels: u64, theirs: &[u8], own: &[u8], shingles: &[u8]) -> u64
+pub fn sum(levels: u64, theirs: &[u8], own: &[u8], shingles: &[u8]) -> usize
     requires { (strata_bytes ≤ length theirs.now) × (strata_bytes ≤ length own.now) }
     ensures { result ≡ estimate_of levels theirs.now own.now (shingles_in shingles.now) }
 {
@@ -64,7 +64,7 @@ pub fn sum(levels: u64, theirs: &[u8], own: &[u8], shingles: &[u8]) -> u64
         else {
             return sum << (i + 1);
         };
-        sum += count as u64;
+        sum += count;
     }
     sum
 }

@@ -12,7 +12,7 @@ use Rattle.protocol.specs.Lent.{lent}
 use Rattle.protocol.specs.Receiver.{Result, number_of}
 use Rattle.state.specs.declared.Receiver.{Receiver}
 use Rattle.state.specs.declared.Taken.{Taken}
-use Rattle.state.specs.Receivers.{receiver_of, Holds}
+use Rattle.state.specs.Receivers.{receiver_of, progress_number, Holds}
 use Rattle.taking.specs.Taking.{struct_after, Gives}
 
 past_eleven : (k : ℕ) → (0 < k → 12 ≤ k) → within 1 11 k ≡ false
@@ -25,14 +25,14 @@ past_eleven k far = elim (dec_lt 0 k) [
     and-false true b e = e
     and-false false b e = refl
 
-pub past_gives : {s : Receiver} {R : Result} {string nodes shingles cells output : List ℕ} {r : Taken} → r.answer ≡ number_of R.answer
-    → (0 < r.answer → 12 ≤ r.answer) → Holds R.state r.state → R.lent ≡ lent string nodes shingles cells output
+pub past_gives : {s : Receiver} {R : Result} {string nodes shingles cells output : List ℕ} {r : Taken} → progress_number r.answer ≡ number_of R.answer
+    → (0 < progress_number r.answer → 12 ≤ progress_number r.answer) → Holds R.state r.state → R.lent ≡ lent string nodes shingles cells output
     → Gives s R string nodes shingles cells output r
 unfolding struct_after
 past_gives {s} {R} {r = r} answer far holds memory =
     record {
       answer = answer;
-      whole = holds.whole ∙ sym (ap (λ (t : Bool). cond t s (receiver_of R.state)) (ap (within 1 11) (sym answer) ∙ past_eleven r.answer far));
+      whole = holds.whole ∙ sym (ap (λ (t : Bool). cond t s (receiver_of R.state)) (ap (within 1 11) (sym answer) ∙ past_eleven (progress_number r.answer) far));
       state = holds.state;
       memory = memory;
     }

@@ -5,7 +5,7 @@ use Rattle.protocol.specs.Lent.{lent}
 use Rattle.protocol.specs.Receiver.{Result, number_of, take_message}
 use Rattle.state.specs.declared.Receiver.{Receiver}
 use Rattle.state.specs.declared.Taken.{Taken}
-use Rattle.state.specs.Receivers.{state_of, receiver_of}
+use Rattle.state.specs.Receivers.{state_of, receiver_of, progress_number}
 
 -- Refused by 1 to 7, "a no changes nothing", or by 9 to 11, "A no at 9 to 11 changes no state and no buffer".
 abbrev pub unmoved : Result → Bool
@@ -17,7 +17,7 @@ struct_after R s = cond (unmoved R) s (receiver_of R.state)
 
 -- What a call answers and leaves is what a result of crate `protocol` says.
 pub record Gives (s : Receiver) (R : Result) (string nodes shingles cells output : List ℕ) (r : Taken) : Type 0 where
-  pub answer : r.answer ≡ number_of R.answer
+  pub answer : progress_number r.answer ≡ number_of R.answer
   pub whole : r.state ≡ struct_after R s
   pub state : state_of r.state ≡ R.state
   pub memory : R.lent ≡ lent string nodes shingles cells output

@@ -1,17 +1,38 @@
-// Taking a message: 9, 10 and 11, then an opening or a node reply is taken.
+// Taking a message: 1 to 7 of what is lent, 9, 10 and 11, then an opening or a node reply is taken.
 #![tactic(auto)]
 
 mod node_reply;
 mod opening_reply;
 
 ghost use Rattle.taking.specs.Taking.{Takes};
+ghost use Rattle.taking.specs.Steps.{Hearing};
 
-use heard::{announced_of, fits, said_by};
+use heard::{Said, fits, said_by};
+use refusal::Refusal;
+use setup::Lent;
 use state::{Receiver, Taken};
 
-// Takes a message. Asked are 1 to 7 of the settings and of what is lent, 9, 10 and 11: a no leaves all as it was. Then 12 to 19: a no
-// ends the session and zeroes the output. The answer is the number of the question that refuses, 0 while the session goes on, or 2^32
-// and the length of the string that is handed over.
+// What a message says that the outstanding query asks for. Asked are 1 to 7 of the settings and of what is lent, 9, 10 and 11.
+fn hear(state: Receiver, lent: Lent, message: &[u8]) -> Result<Said, Refusal>
+    ensures { Hearing state lent.entry.string.now lent.entry.nodes.now lent.entry.shingles.now
+        lent.entry.cells.now message.now result }
+{
+    lent.question(state.settings)?;
+    let Some(asked) = state::query(state) else {
+        return Err(Refusal::Session);
+    };
+    let Some(read) = message::reader::read(message) else {
+        return Err(Refusal::Form);
+    };
+    let said = said_by(read)?;
+    if !fits(asked, state.session, said) {
+        return Err(Refusal::Unexpected);
+    }
+    Ok(said)
+}
+
+// Takes a message. A no to what is asked of what is lent and of the message leaves all as it was; a later no ends the session and zeroes
+// the output. The answer says whether the session goes on, or how long the string is that is handed over.
 pub fn take(
     state: Receiver,
     string: &[u8],
@@ -24,37 +45,22 @@ pub fn take(
     ensures { Takes state string.now nodes.now shingles.old shingles.new cells.now
         message.now output.old output.new result }
 {
-    let settings = state.settings;
-    let refused = setup::question(
-        settings,
-        string.len(),
-        nodes.len(),
-        shingles.len(),
-        cells.len(),
-    );
-    if refused != 0 {
-        return Taken {
-            answer: refused,
+    let lent = Lent {
+        string,
+        nodes,
+        shingles,
+        cells,
+    };
+    match hear(state, lent, message) {
+        Ok(Said::Opening(opening)) => opening_reply::take(
+            state, opening, string, nodes, shingles, cells, message, output,
+        ),
+        Ok(Said::Reply(reply)) => {
+            node_reply::take(state, reply, string, nodes, shingles, message, output)
+        }
+        Err(question) => Taken {
+            answer: Err(question),
             state,
-        };
+        },
     }
-    let asked = state::query(state);
-    if asked.kind == 0 {
-        return Taken { answer: 9, state };
-    }
-    let read = message::reader::read(message);
-    let said = said_by(read);
-    if said.kind == 10 {
-        return Taken { answer: 10, state };
-    }
-    if !fits(asked, state.session, said) {
-        return Taken { answer: 11, state };
-    }
-    if said.kind == 3 {
-        let announced = announced_of(read);
-        return opening_reply::take(
-            state, announced, string, nodes, shingles, cells, message, output,
-        );
-    }
-    node_reply::take(state, said, string, nodes, shingles, message, output)
 }

@@ -1,66 +1,65 @@
-// Taking a node reply: 13, 15 and 16, then a composition or a literal.
+// Taking a node reply: 13 and 15, then a composition or a literal, or 16 where there is neither.
 ghost use Rattle.std.specs.Prelude.{◌≡◌};
-ghost use Rattle.taking.specs.Steps.{early_refusal, NodeSaid, ContentSaid, NodeTaken};
+ghost use Rattle.refusal.specs.Answer.{refused_by};
+ghost use Rattle.taking.specs.Steps.{early_refusal, NodeSaid, CompositionSaid, LiteralSaid, NodeTaken};
 
 use advance::{advance, end};
-use heard::Said;
+use heard::{Content, Reply};
+use refusal::Refusal;
 use state::{Receiver, Taken};
 
-// 0, or the number of the question that refuses a node reply before its content is looked at.
-fn early(size: u64, room: usize, taken: u64, kind: u64) -> u64
-    ensures { result ≡ early_refusal size room taken kind }
+// The greatest length of a string.
+const LONGEST: u64 = 65536;
+
+// So many node replies a session takes.
+const REPLIES: u64 = 4096;
+
+// What refuses a node reply before its content is looked at.
+#[tactic(auto, unfolding(crate::specs::Steps::early_refusal, tree::specs::Questions::ask))]
+fn early(size: u64, room: usize, taken: u64) -> Result<(), Refusal>
+    ensures { refused_by result ≡ early_refusal size room taken }
 {
-    if 65536 < size {
-        return 13;
+    if LONGEST < size {
+        return Err(Refusal::OutputLength);
     }
     if room < size as usize {
-        return 13;
+        return Err(Refusal::OutputLength);
     }
-    if 4096 <= taken {
-        return 15;
+    if REPLIES <= taken {
+        return Err(Refusal::Replies);
     }
-    if kind == 6 {
-        return 16;
-    }
-    0
+    Ok(())
 }
 
 // Takes a composition: the node's children take its place on the pile.
 fn compose(
     state: Receiver,
-    said: Said,
+    level: u64,
+    trail: Option<u64>,
+    count: usize,
     string: &[u8],
     nodes: &[u8],
     shingles: &[u8],
     message: &[u8],
     output: &mut [u8],
 ) -> Taken
-    requires { ContentSaid state said message.now output.old × (said.kind ≡ 4) }
+    requires { CompositionSaid state level trail count message.now output.old }
     ensures { NodeTaken state string.now nodes.now shingles.now message.now
         output.old output.new result }
 {
     let settings = state.settings;
     let rest = state.waiting - 1;
-    let found = composition::children_of(
-        settings,
-        shingles,
-        message,
-        said.level,
-        said.numbered,
-        said.number,
-        said.count,
-        rest,
-    );
-    if !found.composed {
-        return end(state, 17, output);
-    }
+    let Some(children) = composition::children_of(
+        settings, shingles, message, level, trail, count, rest,
+    ) else {
+        return end(state, Refusal::Order, output);
+    };
     if state.size < state.built {
-        return end(state, 18, output);
+        return end(state, Refusal::Overflow, output);
     }
-    let count = found.count;
-    let ids = found.ids;
     let below = state.pile;
-    let pile = state::push(below, rest, said.level + 1, ids, count);
+    let ids = children.ids;
+    let pile = state::push(below, rest, level + 1, ids, children.count);
     advance(
         state,
         state.size,
@@ -70,7 +69,7 @@ fn compose(
         nodes,
         output,
         state.built as usize,
-        rest + count,
+        rest + children.count,
         pile,
     )
 }
@@ -78,24 +77,23 @@ fn compose(
 // Takes a literal: its bytes go to the end of what is built, and the node leaves the pile.
 fn append(
     state: Receiver,
-    said: Said,
+    count: usize,
     string: &[u8],
     nodes: &[u8],
     shingles: &[u8],
     message: &[u8],
     output: &mut [u8],
 ) -> Taken
-    requires { ContentSaid state said message.now output.old × (said.kind ≡ 5) }
+    requires { LiteralSaid state count message.now output.old }
     ensures { NodeTaken state string.now nodes.now shingles.now message.now
         output.old output.new result }
 {
     if state.size < state.built {
-        return end(state, 18, output);
+        return end(state, Refusal::Overflow, output);
     }
-    let count = said.count;
     let left = (state.size - state.built) as usize;
     if left < count {
-        return end(state, 18, output);
+        return end(state, Refusal::Overflow, output);
     }
     let built = state.built as usize;
     let pile = state.pile;
@@ -117,23 +115,35 @@ fn append(
 // Takes a node reply.
 pub fn take(
     state: Receiver,
-    said: Said,
+    reply: Reply,
     string: &[u8],
     nodes: &[u8],
     shingles: &[u8],
     message: &[u8],
     output: &mut [u8],
 ) -> Taken
-    requires { NodeSaid state said message.now }
+    requires { NodeSaid state reply message.now }
     ensures { NodeTaken state string.now nodes.now shingles.now message.now
         output.old output.new result }
 {
-    let refused = early(state.size, output.len(), state.taken, said.kind);
-    if refused != 0 {
-        return end(state, refused, output);
+    if let Err(question) = early(state.size, output.len(), state.taken) {
+        return end(state, question, output);
     }
-    if said.kind == 4 {
-        return compose(state, said, string, nodes, shingles, message, output);
+    match reply.content {
+        Content::Composition { trail, count } => compose(
+            state,
+            reply.level,
+            trail,
+            count,
+            string,
+            nodes,
+            shingles,
+            message,
+            output,
+        ),
+        Content::Literal { count } => {
+            append(state, count, string, nodes, shingles, message, output)
+        }
+        Content::NoNode => end(state, Refusal::NoNode, output),
     }
-    append(state, said, string, nodes, shingles, message, output)
 }

@@ -10,6 +10,7 @@ use heard::Announced;
 use state::{Receiver, Taken};
 
 // A pile with the root alone.
+#[tactic(auto, unfolding(state::specs::Receivers::places_of))]
 fn rooted(root: u64) -> [Waiting; 128]
     ensures { result ≡ places_of (pending 0 root ∷ []) }
 {
@@ -19,7 +20,7 @@ fn rooted(root: u64) -> [Waiting; 128]
     pile
 }
 
-// Takes an opening. The new list goes into the shingle table last, since 18 and 19 must leave that table as it is.
+// Takes an opening. The new list goes into the shingle table last, since a refusal after copying must leave that table as it is.
 pub fn take(
     state: Receiver,
     said: Announced,
@@ -35,24 +36,20 @@ pub fn take(
         cells.now message.now output.old output.new result }
 {
     let settings = state.settings;
-    let opened = announced::judge(
+    let judged = announced::judge(
         settings,
         said.rule,
-        said.w,
-        said.p,
-        said.levels,
-        said.m,
-        said.q,
+        said.settings,
         said.length,
         output.len(),
         message,
         cells,
         shingles,
     );
-    let refusal = opened.refusal;
-    if refusal != 0 {
-        return end(state, refusal, output);
-    }
+    let opening = match judged {
+        Ok(opening) => opening,
+        Err(question) => return end(state, question, output),
+    };
     let pile = rooted(said.root);
     let taken = advance(
         state,
@@ -66,12 +63,9 @@ pub fn take(
         1,
         pile,
     );
-    if taken.answer == 18 {
-        return taken;
+    if taken.answer.is_ok() {
+        // A list that opened has room in the table, so that this is no refusal.
+        let _ = opening::renew(opening, shingles);
     }
-    if taken.answer == 19 {
-        return taken;
-    }
-    opening::renew(opened, shingles);
     taken
 }

@@ -11,10 +11,8 @@ use Rattle.std.specs.List.{list_any}
 use Rattle.trail.specs.Trails.{total, rising, pairs_of, trails_over, order_of, trail_number, only_trail, only_over}
 use Rattle.std.specs.Prelude.{Result}
 use Rattle.trail.specs.Search.{Found, Answer, Columns, Chained, Numberable, Unbalanced, trails_up_to}
-use Rattle.trail.specs.Calls.{nonzero, numberable, unnumbered, number_answer, orderable, refusal, order_answer}
-use Rattle.trail.specs.declared.Numbered.{Numbered}
+use Rattle.trail.specs.Calls.{NumberAnswer, OrderAnswer, nonzero, numberable, unnumbered, number_answer, orderable, refusal, order_answer}
 use Rattle.trail.specs.declared.Pairs.{Pairs}
-use Rattle.trail.specs.declared.Trail.{Trail}
 use Rattle.trail.proofs.Every.{no_member}
 use Rattle.trail.proofs.Prune.{unbalanced_none}
 use Rattle.trail.proofs.Tally.{both_true, Sized}
@@ -48,10 +46,10 @@ order_numberable few e f c t =
 
 module _ (xs : List ℕ) where
   -- The answer to an order that passes.
-  abbrev numbered : Numbered
+  abbrev numbered : NumberAnswer
   numbered = record { answer = 2 ^ 32 + trail_number xs; only = only_trail xs }
 
-  pub number_refused : (r : Numbered) → r ≡ unnumbered → (0 < length xs → length xs < 33 → nonzero xs ≡ true → ⊥) → r ≡ number_answer xs
+  pub number_refused : (r : NumberAnswer) → r ≡ unnumbered → (0 < length xs → length xs < 33 → nonzero xs ≡ true → ⊥) → r ≡ number_answer xs
   unfolding number_answer numberable
   number_refused r e f = e ∙ go (ltb 0 (length xs)) (ltb (length xs) 33) (nonzero xs) refl refl refl
     where
@@ -61,7 +59,7 @@ module _ (xs : List ℕ) where
       go true false c ea eb ec = refl
       go false b c ea eb ec = refl
 
-  pub number_taken : (r : Numbered) → 0 < length xs → length xs < 33 → nonzero xs ≡ true →
+  pub number_taken : (r : NumberAnswer) → 0 < length xs → length xs < 33 → nonzero xs ≡ true →
       r.answer ≡ 2 ^ 32 + trail_number xs → r.only ≡ only_trail xs → r ≡ number_answer xs
   unfolding number_answer numberable
   number_taken r a b c e f = rw (lt-ltb 0 (length xs) a, lt-ltb (length xs) 33 b, c) (λ i. record { answer = e i; only = f i })
@@ -84,7 +82,7 @@ module _ (pairs : Pairs) (number : ℕ) where
   trails = trails_over pairs.previous pairs.own pairs.count
 
   -- The answer to a table and a number that pass.
-  abbrev ordered : Trail
+  abbrev ordered : OrderAnswer
   ordered =
       record {
         answer = 2 ^ 32 + total pairs.count;
@@ -93,7 +91,7 @@ module _ (pairs : Pairs) (number : ℕ) where
         only = only_over pairs.previous pairs.own pairs.count;
       }
 
-  pub order_refused : (r : Trail) → r ≡ refusal →
+  pub order_refused : (r : OrderAnswer) → r ≡ refusal →
       (0 < total pairs.count → total pairs.count < 33 → number < 4096 → number < length trails → ⊥) → r ≡ order_answer pairs number
   unfolding order_answer orderable
   order_refused r e f = e ∙ go (ltb 0 (total pairs.count)) (ltb (total pairs.count) 33) (ltb number 4096) (ltb number (length trails)) refl refl refl refl
@@ -106,7 +104,7 @@ module _ (pairs : Pairs) (number : ℕ) where
       go true false c d ea eb ec ed = refl
       go false b c d ea eb ec ed = refl
 
-  pub order_taken : (r : Trail) → 0 < total pairs.count → total pairs.count < 33 → number < 4096 → number < length trails →
+  pub order_taken : (r : OrderAnswer) → 0 < total pairs.count → total pairs.count < 33 → number < 4096 → number < length trails →
       r.answer ≡ 2 ^ 32 + total pairs.count → r.k ≡ total pairs.count →
       r.ids ≡ order_of pairs.previous pairs.own pairs.count number ++ replicate (32 - total pairs.count) 0 →
       r.only ≡ only_over pairs.previous pairs.own pairs.count → r ≡ order_answer pairs number
@@ -125,7 +123,7 @@ order_accepted pairs number e =
     let h = both_true (ltb number 4096) _ g.1 in
     (ltb-true _ _ f.0, ltb-true _ _ g.0, ltb-true _ _ h.0, ltb-true _ _ h.1)
 
-pub order_found : (pairs : Pairs) (number : ℕ) (r : Trail) (k : ℕ) (places : List ℕ) →
+pub order_found : (pairs : Pairs) (number : ℕ) (r : OrderAnswer) (k : ℕ) (places : List ℕ) →
     k ≡ min 33 (total pairs.count) → (k ≡ 0 → ⊥) → k ≤ 32 → number ≤ 4095 →
     Found (trails_over pairs.previous pairs.own pairs.count) k number places →
     r.answer ≡ 4294967296 + k → r.k ≡ k → r.ids ≡ drop (32 - k) places ++ replicate (32 - k) 0 →

@@ -6,8 +6,7 @@ use Prim.Native.Nat.{ℕ, ◌+◌, ◌-◌, ◌^◌, ◌<◌, ◌≤◌}
 use native.Mathlib.Omega.{arith}
 use lib.ListN.{length, replicate}
 use Rattle.trail.specs.Trails.{pairs_from, pairs_of, total, trail_number, trails_over, order_of, only_over}
-use Rattle.trail.specs.Calls.{nonzero, number_answer, orderable, order_answer}
-use Rattle.trail.specs.declared.Numbered.{Numbered}
+use Rattle.trail.specs.Calls.{NumberAnswer, nonzero, number_answer, orderable, order_answer}
 use Rattle.trail.specs.declared.Pairs.{Pairs}
 use Rattle.trail.proofs.Answers.{number_accepted, number_taken, order_accepted, order_taken}
 use Rattle.trail.proofs.Only.{only_alike}
@@ -22,11 +21,11 @@ order_after_number xs pairs long e n only a h =
     let ps = pairs.previous in
     let os = pairs.own in
     let cs = pairs.count in
-    let q = number_accepted xs n (ap (λ (r : Numbered). r.answer) a) in
+    let q = number_accepted xs n (ap (λ (r : NumberAnswer). r.answer) a) in
     let numbered : trail_number xs ≡ n = q.3 in
     let again = subst (λ (m : ℕ). (m < length (trails_over ps os cs)) × (order_of ps os cs m ≡ xs)) numbered (order_of_number ps os cs long xs e (omega (arith, numbered, h))) in
     let size : length xs ≡ total cs = ap length (sym again.1) ∙ listed_length ps os cs long n again.0 in
-    let flag : only ≡ only_over ps os cs = ap (λ (r : Numbered). r.only) (sym a) ∙ q.4 ∙ only_alike ps os cs long xs e in
+    let flag : only ≡ only_over ps os cs = ap (λ (r : NumberAnswer). r.only) (sym a) ∙ q.4 ∙ only_alike ps os cs long xs e in
     sym (order_taken pairs n _ (omega (arith, q.0, size)) (omega (arith, q.1, size)) (omega arith) again.0
     (ap (λ (m : ℕ). 2 ^ 32 + m) size) size (λ i. sym again.1 i ++ replicate (32 - size i) 0) flag)
 

@@ -12,19 +12,17 @@ mod table;
 mod walk;
 
 ghost use Rattle.std.specs.Prelude.{◌≡◌};
-ghost use Rattle.trail.specs.Calls.{number_answer, unnumbered, order_answer, refusal};
+ghost use Rattle.trail.specs.Calls.{numbered, ordered, number_answer, order_answer};
 
 use links::link;
 use rank::{chain, rank};
+use refusal::Refusal;
 use single::only;
 use table::size;
 use walk::{find, front};
 
 // Numbering answers this for every greater number.
 const CAP: u64 = 4096;
-
-// From here on an answer accepts.
-const ACCEPTED: u64 = 0x1_0000_0000;
 
 // A multiset of pairs (previous id, own id) with counts, in rows: in any order, and rows of the same pair add up.
 // A row of count 0 holds nothing.
@@ -35,72 +33,53 @@ pub struct Pairs {
     pub count: [u64; 32],
 }
 
-// An order's number, 2^32 more, and whether no other order has the same pairs; or the number of the question that refuses it.
+// An order's number: its place among the trails over its pairs; and whether no other order has the same pairs.
 #[derive(Clone, Copy)]
 pub struct Numbered {
-    pub answer: u64,
+    pub place: u64,
     pub only: bool,
 }
 
-// A trail: 2^32 + k and its k ids, zeros after them, and whether it is the only one over its pairs; or the number of the
-// question that refuses it, and no ids.
+// A trail: its k ids, zeros after them, and whether it is the only one over its pairs.
 #[derive(Clone, Copy)]
 pub struct Trail {
-    pub answer: u64,
     pub k: usize,
     pub ids: [u64; 32],
     pub only: bool,
 }
 
-// The answer of question 17's no to an order.
-const UNNUMBERED: Numbered = Numbered {
-    answer: 17,
-    only: false,
-};
-
-// The answer of question 17's no to a multiset and a number.
-const REFUSAL: Trail = Trail {
-    answer: 17,
-    k: 0,
-    ids: [0; 32],
-    only: false,
-};
-
-// The number of an order: how many trails over its pairs come before it, 4,096 for every number above 4,095, and 2^32 more
-// to tell it from a refusal; or 17 unless there are 1 to 32 ids, none of them 0.
-pub fn number(ids: &[u64]) -> Numbered
-    ensures { result ≡ number_answer ids.now }
+// The number of an order: how many trails over its pairs come before it, 4,096 for every number above 4,095. Refused unless there are 1
+// to 32 ids, none of them 0.
+pub fn number(ids: &[u64]) -> Result<Numbered, Refusal>
+    ensures { numbered result ≡ number_answer ids.now }
 {
     if ids.len() == 0 || 32 < ids.len() || ids.contains(&0) {
-        return UNNUMBERED;
+        return Err(Refusal::Order);
     }
     let pairs = chain(ids);
     let table = link(&pairs.previous, &pairs.own);
     let place = rank(&table, &pairs.count, ids);
-    Numbered {
-        answer: ACCEPTED + place,
-        only: only(&table, &pairs.count, ids.len()),
-    }
+    let only = only(&table, &pairs.count, ids.len());
+    Ok(Numbered { place, only })
 }
 
 // The order of a number: the trail over these pairs that so many come before. Refused unless there are 1 to 32 pairs, the
 // number is at most 4,095 and the trail exists.
-pub fn order(pairs: Pairs, number: u64) -> Trail
-    ensures { result ≡ order_answer pairs number }
+pub fn order(pairs: Pairs, number: u64) -> Result<Trail, Refusal>
+    ensures { ordered result ≡ order_answer pairs number }
 {
     let sum = size(&pairs.count);
     if sum == 0 || 32 < sum || CAP <= number {
-        return REFUSAL;
+        return Err(Refusal::Order);
     }
     let k = sum as usize;
     let table = link(&pairs.previous, &pairs.own);
     match find(&table, &pairs.count, k, number) {
-        Ok(rows) => Trail {
-            answer: ACCEPTED + sum,
+        Ok(rows) => Ok(Trail {
             k,
             ids: front(&table.own, &rows, k),
             only: only(&table, &pairs.count, k),
-        },
-        Err(_) => REFUSAL,
+        }),
+        Err(_) => Err(Refusal::Order),
     }
 }

@@ -7,4 +7,5 @@ pub mod Tree
 pub mod Places
 pub mod Filling
 pub mod Reading
+pub mod Small
 pub mod Outcome

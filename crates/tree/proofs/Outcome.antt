@@ -32,7 +32,7 @@ unfolding ask
 ask_small true number next h k = k
 ask_small false number next h k = h
 
-refusal_small : (σ : Settings) (n : ℕ) → refusal σ n ≤ 6
+pub refusal_small : (σ : Settings) (n : ℕ) → refusal σ n ≤ 6
 unfolding refusal
 refusal_small σ n =
     ask_small _ 1 _ (omega arith) (ask_small _ 2 _ (omega arith) (ask_small _ 3 _ (omega arith)

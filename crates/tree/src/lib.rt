@@ -7,9 +7,12 @@ mod level;
 mod limits;
 
 ghost use Rattle.std.specs.Prelude.{◌≡◌, ◌≤◌, leb, IfSome};
+ghost use Rattle.refusal.specs.Answer.{answer_of, refused_by};
 ghost use Rattle.tree.specs.Questions.{refusal};
 ghost use Rattle.tree.specs.Table.{Tabled};
 ghost use Rattle.tree.specs.Wrote.{Finished};
+
+use refusal::Refusal;
 
 // An entry's size in bytes.
 const ENTRY: usize = 16;
@@ -19,11 +22,8 @@ const NODES: usize = 4096;
 
 const ROOM: usize = NODES * ENTRY;
 
-// What an answer adds to the number of nodes.
-const WRITTEN: u64 = 4294967296;
-
 // Document 01's settings: window w, fan-out p, levels L, nominal length M, sketch width q.
-#[derive(Clone, Copy)]
+#[derive(Clone, Copy, PartialEq, Eq)]
 pub struct Settings {
     pub window: u64,
     pub fan_out: u64,
@@ -32,14 +32,11 @@ pub struct Settings {
     pub width: u64,
 }
 
-// Questions 1 to 6, of settings and of a string's length: the number of the first that fails, or 0.
-pub fn question(settings: Settings, size: usize) -> u64
-    ensures { result ≡ refusal settings size }
+// Questions 1 to 6, of settings and of a string's length.
+pub fn question(settings: Settings, size: usize) -> Result<(), Refusal>
+    ensures { refused_by result ≡ refusal settings size }
 {
-    let first = limits::shape_question(settings.window, settings.fan_out, settings.levels);
-    if first != 0 {
-        return first;
-    }
+    limits::shape_question(settings.window, settings.fan_out, settings.levels)?;
     let least = level::power(settings.fan_out, settings.levels);
     limits::size_question(least, settings.nominal, settings.width, size)
 }
@@ -51,31 +48,28 @@ pub fn has_room(nodes: usize) -> bool
     ROOM <= nodes
 }
 
-// Clears the table past its used entries, and answers how many they are. If they did not fit, it clears all of it, and the answer is 8.
-fn finish(nodes: &mut [u8], used: Option<usize>) -> u64
+// Clears the table past its used entries, and answers how many they are. If they did not fit, it clears all of it.
+fn finish(nodes: &mut [u8], used: Option<usize>) -> Result<usize, Refusal>
     requires { IfSome used (λ n. n ≤ 4096) }
-    ensures { Finished nodes.old nodes.new used result }
+    ensures { Finished nodes.old nodes.new used (answer_of result) }
 {
     let Some(used) = used else {
         rows::clear(nodes, 0);
-        return 8;
+        return Err(Refusal::Nodes);
     };
     rows::clear(nodes, used * ENTRY);
-    WRITTEN + used as u64
+    Ok(used)
 }
 
-// Cuts a string into its tree of blocks and writes the tree to the node table. Asked are 1 to 6, 7 of the node table, and 8:
-// the answer is the number of the first that fails, or 2^32 and the number of nodes. A no at 1 to 7 leaves the table as it
-// is, at 8 the table is all zero, and after a yes it is zero past the last node.
-pub fn cut_string(settings: Settings, string: &[u8], nodes: &mut [u8]) -> u64
-    ensures { Tabled settings string.now nodes.old nodes.new result }
+// Cuts a string into its tree of blocks and writes the tree to the node table. Asked are 1 to 6, 7 of the node table, and 8; the answer
+// is the number of nodes. A no at 1 to 7 leaves the table as it is, at 8 the table is all zero, and after a yes it is zero past the last
+// node.
+pub fn cut_string(settings: Settings, string: &[u8], nodes: &mut [u8]) -> Result<usize, Refusal>
+    ensures { Tabled settings string.now nodes.old nodes.new (answer_of result) }
 {
-    let refused = question(settings, string.len());
-    if refused != 0 {
-        return refused;
-    }
+    question(settings, string.len())?;
     if !has_room(nodes.len()) {
-        return 7;
+        return Err(Refusal::Room);
     }
     let used = cut::cut_node(
         settings,

@@ -1,7 +1,10 @@
 // The questions about settings, in two steps: 4 asks for a power that 1 to 3 keep small.
 ghost use Rattle.std.specs.Prelude.{◌≡◌};
+ghost use Rattle.refusal.specs.Answer.{refused_by};
 ghost use Rattle.tree.specs.Bounds.{shape_refusal, size_refusal};
 ghost use Rattle.tree.specs.Questions.{within};
+
+use refusal::Refusal;
 
 const SHORTEST_WINDOW: u64 = 2;
 
@@ -30,36 +33,36 @@ fn within(low: u64, high: u64, x: u64) -> bool
     low <= x && x <= high
 }
 
-// Questions 1 to 3: the number of the first that fails, or 0.
+// Questions 1 to 3.
 #[tactic(auto, unfolding(crate::specs::Questions::ask))]
-pub fn shape_question(w: u64, p: u64, levels: u64) -> u64
-    ensures { result ≡ shape_refusal w p levels 0 }
+pub fn shape_question(w: u64, p: u64, levels: u64) -> Result<(), Refusal>
+    ensures { refused_by result ≡ shape_refusal w p levels 0 }
 {
     if !within(SHORTEST_WINDOW, LONGEST_WINDOW, w) {
-        return 1;
+        return Err(Refusal::Window);
     }
     if !within(LEAST_FAN_OUT, GREATEST_FAN_OUT, p) {
-        return 2;
+        return Err(Refusal::FanOut);
     }
     if !within(FEWEST_LEVELS, MOST_LEVELS, levels) {
-        return 3;
+        return Err(Refusal::Levels);
     }
-    0
+    Ok(())
 }
 
-// Questions 4 to 6, where the least nominal length is known: the number of the first that fails, or 0.
+// Questions 4 to 6, where the least nominal length is known.
 #[tactic(auto, unfolding(crate::specs::Questions::ask))]
-pub fn size_question(least: u64, nominal: u64, width: u64, size: usize) -> u64
-    ensures { result ≡ size_refusal least nominal width size }
+pub fn size_question(least: u64, nominal: u64, width: u64, size: usize) -> Result<(), Refusal>
+    ensures { refused_by result ≡ size_refusal least nominal width size }
 {
     if !within(least, GREATEST_LENGTH, nominal) {
-        return 4;
+        return Err(Refusal::Nominal);
     }
     if !within(LEAST_WIDTH, GREATEST_WIDTH, width) {
-        return 5;
+        return Err(Refusal::Width);
     }
     if LONGEST_STRING < size {
-        return 6;
+        return Err(Refusal::StringLength);
     }
-    0
+    Ok(())
 }

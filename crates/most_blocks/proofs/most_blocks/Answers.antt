@@ -1,7 +1,6 @@
 -- Refused where a number is out of its range, else the bound.
 use mathlib.Core.Path.{sym, ◌∙◌}
-use native.Mathlib.Omega.{arith}
-use Rattle.most_blocks.specs.Most.{most_blocks_of, most_answer}
+use Rattle.most_blocks.specs.Most.{most_answer}
 use Rattle.most_blocks.proofs.Accepted.{apart}
 use Rattle.most_blocks.proofs.most_blocks.Goals as goal
 
@@ -11,10 +10,6 @@ returns-then-not-in_range c = rw (sym c.in_range.ensures ∙ c.if-not-in_range.t
 
 pub bound-requires : goal.bound-requires
 bound-requires c = let args = c.args in apart args.n args.w args.h (sym c.in_range.ensures ∙ c.if-not-in_range.false)
-
-pub overflow_add-result : goal.overflow_add-result
-unfolding most_blocks_of
-overflow_add-result c = omega (arith, c.bound.ensures)
 
 pub returns : goal.returns
 unfolding most_answer

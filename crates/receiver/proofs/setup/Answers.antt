@@ -1,9 +1,11 @@
 -- Refused, or the state of a new session is made.
-use Rattle.receiver.proofs.Calls.{setup_no, setup_yes}
+use Rattle.std.proofs.lemmas.Result.{err_from_is_err_and}
 use Rattle.receiver.proofs.setup.Goals as goal
 
-pub returns-then-answer-lt-ACCEPTED : goal.returns-then-answer-lt-ACCEPTED
-returns-then-answer-lt-ACCEPTED c = setup_no c.fill_tables-answer.ensures c.if-answer-lt-ACCEPTED.true c.initial-state.ensures
+pub returns-in_err-count : goal.returns-in_err-count
+returns-in_err-count c =
+    let p = err_from_is_err_and c.from_residual.result c.from_residual.ensures.1 in
+    rw (p.1, p.2) c.in_err-count.ensures
 
 pub returns : goal.returns
-returns c = setup_yes c.fill_tables-answer.ensures c.if-answer-lt-ACCEPTED.false c.initial-state-2.ensures
+returns c = record { tables = c.in_ok-count.ensures; state_is = c.initial-state.ensures.whole }

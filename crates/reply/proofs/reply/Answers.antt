@@ -1,25 +1,28 @@
 -- Each way out is a case of the definition: the laws of `Replying`.
-use Rattle.std.proofs.Common.{Ok, Err}
-use mathlib.Core.Path.{◌≡◌}
+use Rattle.std.proofs.Common.{Ok, refl, sym, ap, ◌≡◌, ◌∙◌}
+use Rattle.std.proofs.lemmas.Result.{err_from_is_err_and}
+use Rattle.refusal.proofs.Numbers.{number_nonzero}
 use Rattle.reply.specs.Parts.{query_of_message}
 use Rattle.reply.specs.declared.query.Query.TheVariants as asks
 use Rattle.reply.proofs.Replying.{reply_refused, unheard, opening_replied, node_replied}
 use Rattle.reply.proofs.reply.Goals as goal
 
-pub returns-then-refused-ne0 : goal.returns-then-refused-ne0
-returns-then-refused-ne0 c = reply_refused _ _ _ _ _ _ _ _ c.question-refused.ensures c.if-refused-ne0.true
+pub returns-in_err-question : goal.returns-in_err-question
+returns-in_err-question c =
+    let p = err_from_is_err_and c.from_residual.result c.from_residual.ensures.1 in
+    rw (p.1, p.2) (reply_refused _ _ _ _ _ _ _ _ c.in_err-question.ensures (number_nonzero _))
 
-pub returns-in-Ok-Opening : goal.returns-in-Ok-Opening
-returns-in-Ok-Opening c =
-    let asked : query_of_message c.read.result ≡ Ok (asks.Opening c.in-Ok-Opening.session) = cc in
-    opening_replied _ _ _ _ _ _ _ _ c.question-refused.ensures c.if-refused-ne0.false _ _ c.read.ensures asked c.opening.ensures
+pub returns-in_err-query : goal.returns-in_err-query
+returns-in_err-query c =
+    let p = err_from_is_err_and c.from_residual-in_err-query.result c.from_residual-in_err-query.ensures.1 in
+    rw (p.1, p.2) (unheard _ _ _ _ _ _ _ _ c.in_ok-question.ensures refl _ _ c.read.ensures (sym c.in_err-query.ensures))
 
-pub returns-in-Ok-Node : goal.returns-in-Ok-Node
-returns-in-Ok-Node c =
-    let asked : query_of_message c.read.result ≡ Ok (asks.Node c.in-Ok-Node.asked) = cc in
-    node_replied _ _ _ _ _ _ _ _ c.question-refused.ensures c.if-refused-ne0.false _ _ c.read.ensures asked c.node_reply.ensures
+pub returns-in-Opening : goal.returns-in-Opening
+returns-in-Opening c =
+    let asked : query_of_message c.read.result ≡ Ok (asks.Opening c.in-Opening.session) = sym c.in_ok-query.ensures ∙ ap Ok c.in-Opening.is in
+    opening_replied _ _ _ _ _ _ _ _ c.in_ok-question.ensures refl _ _ c.read.ensures asked c.opening.ensures
 
-pub returns-in-Err : goal.returns-in-Err
-returns-in-Err c =
-    let asked : query_of_message c.read.result ≡ Err c.in-Err.question = cc in
-    unheard _ _ _ _ _ _ _ _ c.question-refused.ensures c.if-refused-ne0.false _ _ c.read.ensures asked
+pub returns-in-Node : goal.returns-in-Node
+returns-in-Node c =
+    let asked : query_of_message c.read.result ≡ Ok (asks.Node c.in-Node.asked) = sym c.in_ok-query.ensures ∙ ap Ok c.in-Node.is in
+    node_replied _ _ _ _ _ _ _ _ c.in_ok-question.ensures refl _ _ c.read.ensures asked c.node_reply.ensures

@@ -1,20 +1,24 @@
 -- Each way out is a case of the definition: the laws of `Outcome`.
-use native.Mathlib.Omega.{arith}
+use Rattle.std.proofs.Common.{refl, arith}
+use Rattle.std.proofs.lemmas.Result.{err_from_is_err_and}
+use Rattle.refusal.proofs.Numbers.{number_nonzero, number_small}
 use Rattle.sender.proofs.Outcome.{refused_early, short_state, refused_tables, state_made}
 use Rattle.sender.proofs.setup.Goals as goal
 
-pub returns-then-refused-ne0 : goal.returns-then-refused-ne0
-returns-then-refused-ne0 c = refused_early _ _ _ _ _ _ _ c.question-refused.ensures c.if-refused-ne0.true
+pub returns-in_err-question : goal.returns-in_err-question
+returns-in_err-question c =
+    let p = err_from_is_err_and c.from_residual.result c.from_residual.ensures.1 in
+    rw (p.1, p.2) (refused_early _ _ _ _ _ _ _ c.in_err-question.ensures (number_nonzero _))
 
 pub returns-then-state-lt-SIZE : goal.returns-then-state-lt-SIZE
-returns-then-state-lt-SIZE c = short_state _ _ _ _ _ _ _ c.question-refused.ensures c.if-refused-ne0.false (omega (arith, c.if-state-lt-SIZE.true))
+returns-then-state-lt-SIZE c = short_state _ _ _ _ _ _ _ c.in_ok-question.ensures refl (omega (arith, c.if-state-lt-SIZE.true))
 
-pub returns-then-answer-lt-ACCEPTED : goal.returns-then-answer-lt-ACCEPTED
-returns-then-answer-lt-ACCEPTED c =
-    refused_tables _ _ _ _ _ _ (omega (arith, c.if-state-lt-SIZE.false)) _ _ _ _ c.fill_tables-answer.ensures
-    (omega (arith, c.if-answer-lt-ACCEPTED.true))
+pub returns-in_err-count : goal.returns-in_err-count
+returns-in_err-count c =
+    let p = err_from_is_err_and c.from_residual-in_err-count.result c.from_residual-in_err-count.ensures.1 in
+    rw (p.1, p.2) (refused_tables _ _ _ _ _ _ (omega (arith, c.if-state-lt-SIZE.false)) _ _ _ _ c.in_err-count.ensures (number_small _))
 
 pub returns : goal.returns
 returns c =
-    state_made _ _ _ _ _ _ (omega (arith, c.if-state-lt-SIZE.false)) _ _ _ _ c.fill_tables-answer.ensures _
-    (omega (arith, c.if-answer-lt-ACCEPTED.false)) c.write_settings.ensures
+    state_made _ _ _ _ _ _ (omega (arith, c.if-state-lt-SIZE.false)) _ _ _ _ c.in_ok-count.ensures _ (omega arith)
+    c.write_settings.ensures

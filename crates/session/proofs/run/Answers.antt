@@ -1,66 +1,18 @@
 -- Each way out is a case of the definition: the laws of `Setups`.
-use mathlib.Core.Path.{◌∙◌}
+use Rattle.std.proofs.lemmas.Result.{err_from_is_err_and}
 use Rattle.session.proofs.Setups.{sender_refused, receiver_refused, all_exchanged}
 use Rattle.session.proofs.run.Goals as goal
 
-pub shape_of-nodes-then-answer-lt-ACCEPTED : goal.shape_of-nodes-then-answer-lt-ACCEPTED
-shape_of-nodes-then-answer-lt-ACCEPTED c = c.fill_tables-answer.auto.nodes
+pub returns-in_err-fill_tables : goal.returns-in_err-fill_tables
+returns-in_err-fill_tables c =
+    let p = err_from_is_err_and c.from_residual.result c.from_residual.ensures.1 in
+    rw (p.1, p.2) (sender_refused _ _ _ _ _ _ _ _ _ _ _ c.in_err-fill_tables.ensures)
 
-pub shape_of-shingles-then-answer-lt-ACCEPTED : goal.shape_of-shingles-then-answer-lt-ACCEPTED
-shape_of-shingles-then-answer-lt-ACCEPTED c = c.fill_tables-answer.auto.shingles
-
-pub shape_of-cells-then-answer-lt-ACCEPTED : goal.shape_of-cells-then-answer-lt-ACCEPTED
-shape_of-cells-then-answer-lt-ACCEPTED c = c.fill_tables-answer.auto.cells
-
-pub returns-then-answer-lt-ACCEPTED : goal.returns-then-answer-lt-ACCEPTED
-returns-then-answer-lt-ACCEPTED c = sender_refused c.fill_tables-answer.ensures c.if-answer-lt-ACCEPTED.true
-
-pub shape_of-nodes-then-refused-lt-ACCEPTED : goal.shape_of-nodes-then-refused-lt-ACCEPTED
-shape_of-nodes-then-refused-lt-ACCEPTED c = c.fill_tables-answer.auto.nodes
-
-pub shape_of-shingles-then-refused-lt-ACCEPTED : goal.shape_of-shingles-then-refused-lt-ACCEPTED
-shape_of-shingles-then-refused-lt-ACCEPTED c = c.fill_tables-answer.auto.shingles
-
-pub shape_of-cells-then-refused-lt-ACCEPTED : goal.shape_of-cells-then-refused-lt-ACCEPTED
-shape_of-cells-then-refused-lt-ACCEPTED c = c.fill_tables-answer.auto.cells
-
-pub shape_of-own_nodes-then-refused-lt-ACCEPTED : goal.shape_of-own_nodes-then-refused-lt-ACCEPTED
-shape_of-own_nodes-then-refused-lt-ACCEPTED c = c.setup-made.auto.nodes
-
-pub shape_of-own_shingles-then-refused-lt-ACCEPTED : goal.shape_of-own_shingles-then-refused-lt-ACCEPTED
-shape_of-own_shingles-then-refused-lt-ACCEPTED c = c.setup-made.auto.shingles
-
-pub shape_of-own_cells-then-refused-lt-ACCEPTED : goal.shape_of-own_cells-then-refused-lt-ACCEPTED
-shape_of-own_cells-then-refused-lt-ACCEPTED c = c.setup-made.auto.cells
-
-pub returns-then-refused-lt-ACCEPTED : goal.returns-then-refused-lt-ACCEPTED
-returns-then-refused-lt-ACCEPTED c = receiver_refused c.fill_tables-answer.ensures c.if-answer-lt-ACCEPTED.false c.setup-made.ensures c.if-refused-lt-ACCEPTED.true
-
-pub shape_of-nodes : goal.shape_of-nodes
-shape_of-nodes c = c.fill_tables-answer.auto.nodes
-
-pub shape_of-shingles : goal.shape_of-shingles
-shape_of-shingles c = c.fill_tables-answer.auto.shingles
-
-pub shape_of-cells : goal.shape_of-cells
-shape_of-cells c = c.fill_tables-answer.auto.cells
-
-pub shape_of-own_nodes : goal.shape_of-own_nodes
-shape_of-own_nodes c = c.setup-made.auto.nodes
-
-pub shape_of-own_shingles : goal.shape_of-own_shingles
-shape_of-own_shingles c = c.exchange_all.auto.own_shingles ∙ c.setup-made.auto.shingles
-
-pub shape_of-own_cells : goal.shape_of-own_cells
-shape_of-own_cells c = c.setup-made.auto.cells
-
-pub shape_of-buffer : goal.shape_of-buffer
-shape_of-buffer c = c.exchange_all.auto.buffer
-
-pub shape_of-output : goal.shape_of-output
-shape_of-output c = c.exchange_all.auto.output
+pub returns-in_err-ready : goal.returns-in_err-ready
+returns-in_err-ready c =
+    let p = err_from_is_err_and c.from_residual-in_err-ready.result c.from_residual-in_err-ready.ensures.1 in
+    rw (p.1, p.2) (receiver_refused _ _ _ _ _ _ _ _ _ _ _ c.in_ok-fill_tables.ensures _ _ _ _ _ _ _ _ _ c.in_err-ready.ensures)
 
 pub returns : goal.returns
 returns c =
-    all_exchanged c.fill_tables-answer.ensures c.if-answer-lt-ACCEPTED.false c.setup-made.ensures c.if-refused-lt-ACCEPTED.false
-    c.exchange_all.ensures
+    all_exchanged _ _ _ _ _ _ _ _ _ _ _ c.in_ok-fill_tables.ensures _ _ _ _ _ _ _ _ c.in_ok-ready.ensures c.exchange_all.ensures

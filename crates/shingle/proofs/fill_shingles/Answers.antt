@@ -4,7 +4,7 @@ use Prim.Native.Nat.{◌*◌}
 use native.Mathlib.Omega.{arith}
 use borrow.Author.Rules.{rules}
 use lib.Seq.{length-take-le}
-use Rattle.shingle.proofs.Outcome.{filled_short, filled, fits, few, plus_fits}
+use Rattle.shingle.proofs.Outcome.{filled_short, filled, fits, few}
 use Rattle.shingle.proofs.fill_shingles.Goals as goal
 
 pub returns-then-shingles-lt-ROOM : goal.returns-then-shingles-lt-ROOM
@@ -15,9 +15,6 @@ slice_bounds-arrange-end-2 c = sym (length-take-le (c.write_pairs-n.result * 24)
 
 pub overflow_mul-m : goal.overflow_mul-m
 overflow_mul-m c = omega (arith, few _ _ _ _ _ _ c.write_pairs-n.ensures c.arrange-m.ensures, c.write_pairs-n.ensures.few)
-
-pub overflow_add-result : goal.overflow_add-result
-overflow_add-result c = record { fits = plus_fits _ (few _ _ _ _ _ _ c.write_pairs-n.ensures c.arrange-m.ensures) }
 
 pub returns : goal.returns
 returns c =

@@ -1,7 +1,7 @@
 -- The number of each type.
 use Rattle.std.proofs.Common.{◌∙◌}
 use Rattle.message_writer.proofs.Writing.{head_stored}
-use Rattle.message_writer.proofs.Codes.{form_in_code}
+use Rattle.message.proofs.Codes.{form_in_code}
 use Rattle.message_writer.proofs.put.put_head.Goals as goal
 
 pub returns : goal.returns

@@ -1,6 +1,5 @@
 -- Each way out is a case of the definition: the laws of `Replying`.
-use Rattle.std.proofs.Common.{Some}
-use mathlib.Core.Path.{sym, ◌∙◌}
+use Rattle.std.proofs.Common.{Some, sym, ◌∙◌}
 use Rattle.node_table.proofs.Entries.{there}
 use Rattle.reply.specs.Parts.{Planned}
 use Rattle.reply.proofs.Searching.{asked_inside}
@@ -8,7 +7,7 @@ use Rattle.reply.proofs.Replying.{none_written, composition_written, literal_wri
 use Rattle.reply.proofs.node.node_reply.Goals as goal
 
 pub returns-then-node_id-eq0 : goal.returns-then-node_id-eq0
-returns-then-node_id-eq0 c = none_written _ _ _ _ _ _ _ _ c.find-k.ensures (sym c.node_id.ensures ∙ c.if-node_id-eq0.true) c.write_none.ensures
+returns-then-node_id-eq0 c = none_written _ _ _ _ _ _ c.find-k.ensures (sym c.node_id.ensures ∙ c.if-node_id-eq0.true) c.write_none.ensures
 
 pub plan_node-requires : goal.plan_node-requires
 plan_node-requires c = there _ _ (λ z. c.if-node_id-eq0.false (c.node_id.ensures ∙ z))
@@ -18,7 +17,7 @@ write_references-requires c = let planned : Planned _ _ _ (Some c.in-Some.plan) 
 
 pub returns-in-Some : goal.returns-in-Some
 returns-in-Some c =
-    composition_written _ _ _ _ _ _ _ _ c.find-k.ensures (λ z. c.if-node_id-eq0.false (c.node_id.ensures ∙ z)) _
+    composition_written _ _ _ _ _ _ c.find-k.ensures (λ z. c.if-node_id-eq0.false (c.node_id.ensures ∙ z)) _
     c.in-Some.ensures c.write_references.ensures
 
 pub write_bytes-requires : goal.write_bytes-requires
@@ -26,5 +25,5 @@ write_bytes-requires c = asked_inside _ _ _ _ _ c.find-k.ensures (λ z. c.if-nod
 
 pub returns : goal.returns
 returns c =
-    literal_written _ _ _ _ _ _ _ _ c.find-k.ensures (λ z. c.if-node_id-eq0.false (c.node_id.ensures ∙ z))
+    literal_written _ _ _ _ _ _ c.find-k.ensures (λ z. c.if-node_id-eq0.false (c.node_id.ensures ∙ z))
     c.in_default.ensures c.write_bytes.ensures

@@ -1,36 +1,34 @@
-use Rattle.std.proofs.Common.{◌∙◌, ◌-◌, ◌+◌, arith}
+-- A round that refuses or hands the string over is the last; the others leave one round less: the laws of `Rounds`.
+use Rattle.std.proofs.Common.{◌≡◌, ℕ, ◌∙◌, ◌-◌, ◌+◌, ◌^◌, sym, ap, refl, arith, Ok, Err}
+use Rattle.std.proofs.lemmas.Result.{err_from_is_err_and}
+use Rattle.refusal.specs.Answer.{number_of}
+use Rattle.refusal.proofs.Numbers.{number_nonzero}
+use Rattle.state.specs.Receivers.{progress_number}
 use Rattle.session.proofs.Rounds.{going_first, used_up, last_round, next_round}
 use Rattle.session.proofs.round.exchange_all.Goals as goal
 
 pub loop-round-init : goal.loop-round-init
 loop-round-init c = going_first
 
-pub shape_of-own_shingles-then-answer-ne0 : goal.shape_of-own_shingles-then-answer-ne0
-shape_of-own_shingles-then-answer-ne0 c = c.exchange-taken.auto.own_shingles ∙ c.loop-round.invariant.shingles_long
+pub returns-in_err-taken : goal.returns-in_err-taken
+returns-in_err-taken c =
+    let p = err_from_is_err_and c.from_residual.result c.from_residual.ensures.1 in
+    let number : progress_number c.exchange-taken.result.answer ≡ number_of c.in_err-taken.field-0.0 = ap progress_number c.in_err-taken.was in
+    rw (p.1, p.2) (rw number at (last_round c.exchange-taken.ensures c.loop-round.invariant (omega arith) (λ z. number_nonzero _ (sym number ∙ z))))
 
-pub shape_of-buffer-then-answer-ne0 : goal.shape_of-buffer-then-answer-ne0
-shape_of-buffer-then-answer-ne0 c = c.exchange-taken.auto.buffer ∙ c.loop-round.invariant.buffer_long
-
-pub shape_of-output-then-answer-ne0 : goal.shape_of-output-then-answer-ne0
-shape_of-output-then-answer-ne0 c = c.exchange-taken.auto.output ∙ c.loop-round.invariant.output_long
-
-pub returns-then-answer-ne0 : goal.returns-then-answer-ne0
-returns-then-answer-ne0 c = last_round c.exchange-taken.ensures c.loop-round.invariant (omega arith) c.if-answer-ne0.true
+pub returns-in-HandedOver : goal.returns-in-HandedOver
+returns-in-HandedOver c =
+    let number : progress_number c.exchange-taken.result.answer ≡ 2 ^ 32 + c.in-HandedOver.length =
+    ap progress_number c.in_ok-taken.was ∙ ap (λ p. progress_number (Ok p)) c.in-HandedOver.is in
+    rw number at (last_round c.exchange-taken.ensures c.loop-round.invariant (omega arith) (λ z. absurd (omega (arith, number, z))))
 
 pub loop-round-preserved : goal.loop-round-preserved
 loop-round-preserved c =
-    next_round c.exchange-taken.ensures (4097 - (c.loop-round._round + 1)) c.loop-round.invariant (omega arith) c.if-answer-ne0.false
+    let goes : progress_number c.exchange-taken.result.answer ≡ 0 =
+    ap progress_number c.in_ok-taken.was ∙ ap (λ p. progress_number (Ok p)) c.in-Going.is in
+    next_round c.exchange-taken.ensures (4097 - (c.loop-round._round + 1)) c.loop-round.invariant (omega arith) goes
     c.exchange-taken.auto.own_shingles c.exchange-taken.auto.buffer
     c.exchange-taken.auto.output
-
-pub shape_of-own_shingles : goal.shape_of-own_shingles
-shape_of-own_shingles c = c.loop-round.invariant.shingles_long
-
-pub shape_of-buffer : goal.shape_of-buffer
-shape_of-buffer c = c.loop-round.invariant.buffer_long
-
-pub shape_of-output : goal.shape_of-output
-shape_of-output c = c.loop-round.invariant.output_long
 
 pub returns : goal.returns
 returns c = used_up c.loop-round.invariant (omega arith)

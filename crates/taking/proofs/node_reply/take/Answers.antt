@@ -1,20 +1,17 @@
 -- Refused early, or by what the content decides.
-use Rattle.taking.proofs.Node.{early_no, early_yes, five}
+use Rattle.std.proofs.Common.{refl}
+use Rattle.refusal.proofs.Numbers.{number_nonzero}
+use Rattle.taking.proofs.Node.{early_no, early_yes, composition_said, literal_said, missing_said}
 use Rattle.taking.proofs.node_reply.take.Goals as goal
 
-pub returns-then-refused-ne0 : goal.returns-then-refused-ne0
-returns-then-refused-ne0 c = early_no c.requires _ c.early-refused.ensures c.if-refused-ne0.true c.end.ensures
+pub returns-in-Err : goal.returns-in-Err
+returns-in-Err c = early_no _ _ c.in-Err.ensures _ c.requires.heard (number_nonzero _) c.end.ensures
 
 pub compose-requires : goal.compose-requires
-compose-requires c = (early_yes c.requires _ c.early-refused.ensures c.if-refused-ne0.false, c.if-said-eq4.true)
-
-pub returns-then-said-eq4 : goal.returns-then-said-eq4
-returns-then-said-eq4 c = c.compose.ensures
+compose-requires c = composition_said c.requires (early_yes _ _ c.in_default.ensures c.requires refl) c.in-Composition.is
 
 pub append-requires : goal.append-requires
-append-requires c =
-    let zero-asked = c.if-refused-ne0.false in
-    (early_yes c.requires _ c.early-refused.ensures zero-asked, five c.requires c.args.output.now c.early-refused.ensures zero-asked c.if-said-eq4.false)
+append-requires c = literal_said c.requires (early_yes _ _ c.in_default.ensures c.requires refl) c.in-Literal.is
 
-pub returns : goal.returns
-returns c = c.append.ensures
+pub returns-in-NoNode : goal.returns-in-NoNode
+returns-in-NoNode c = missing_said c.requires (early_yes _ _ c.in_default.ensures c.requires refl) c.in-NoNode.is c.end-in-NoNode.ensures

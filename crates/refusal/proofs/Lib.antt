@@ -1,0 +1,2 @@
+-- A law of the numbers.
+pub mod Numbers

@@ -1,0 +1,2 @@
+-- The numbers of the questions, and the answers of the calls.
+pub mod Answer
