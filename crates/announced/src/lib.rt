@@ -24,12 +24,9 @@ pub fn judge(
 ) -> Result<Opening, Refusal>
     ensures { Judges settings rule announced length room message.now cells.now shingles.now result }
 {
-    if !question::same(settings, rule, announced) {
-        return Err(Refusal::OtherSettings);
-    }
-    if !question::fits(length, room) {
-        return Err(Refusal::OutputLength);
-    }
+    let equal = question::same(settings, rule, announced);
+    let fits = question::fits(length, room);
+    question::first_no(equal, fits)?;
     let theirs = cells::cells_of(message, announced.width);
     opening::decide(settings.levels, settings.width, &theirs, cells, shingles)
 }

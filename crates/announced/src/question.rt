@@ -1,7 +1,10 @@
 // The questions that an opening is asked before its sketch.
 ghost use Rattle.std.specs.Prelude.{◌≡◌};
+ghost use Rattle.refusal.specs.Answer.{refused_by};
+ghost use Rattle.tree.specs.Questions.{ask};
 ghost use Rattle.announced.specs.Judging.{same_settings, length_fits};
 
+use refusal::Refusal;
 use tree::Settings;
 
 // The greatest length of a string.
@@ -22,4 +25,18 @@ pub fn fits(length: u64, room: usize) -> bool
     ensures { result ≡ length_fits length room }
 {
     length <= LONGEST && length <= room as u64
+}
+
+// The first of the two with a no.
+#[tactic(auto, unfolding(tree::specs::Questions::ask))]
+pub fn first_no(same: bool, fits: bool) -> Result<(), Refusal>
+    ensures { refused_by result ≡ ask same 12 (ask fits 13 0) }
+{
+    if !same {
+        return Err(Refusal::OtherSettings);
+    }
+    if !fits {
+        return Err(Refusal::OutputLength);
+    }
+    Ok(())
 }

@@ -5,7 +5,7 @@ ghost use Rattle.message.specs.Fields.{values_are};
 ghost use Rattle.message.specs.Reading.{numbers_are, Falls, References, Threes, Texts};
 
 use crate::field::{is_number, is_value};
-use crate::word::{carried, is_reference, load, rest};
+use crate::word::{carried, carries_three, is_reference, load, rest};
 
 // Where the words of a literal end, and how many bytes they carry.
 #[derive(Clone, Copy)]
@@ -49,14 +49,16 @@ pub fn reference_run(message: &[u8], at: usize) -> Option<usize>
     Some(at.max(words))
 }
 
-// The first word from `at` on that does not carry three bytes.
+// The first word from `at` on that does not carry three bytes. It is no part of the reader's own code: there the loop would set what the
+// reader's refusals need at each word, which takes longer than the words.
+#[inline(never)]
 fn threes(message: &[u8], at: usize) -> usize
     ensures run { Threes (link_words message.now) at result }
     ensures stops { carries_three_bytes (get_or (link_words message.now) result 0) ≡ false }
 {
     let words = message.len() / 4;
     for k in at..words {
-        if carried(load(message, k)) < 3 {
+        if !carries_three(load(message, k)) {
             return k;
         }
     }

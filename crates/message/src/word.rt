@@ -1,6 +1,6 @@
 // The 32-bit words of a message, most significant byte first, and what stands in one word.
 ghost use Rattle.std.specs.Prelude.{◌≡◌, eqb, get_or};
-ghost use Rattle.message.specs.Words.{link_words, kind_of, rest_of, carried_by, reference_word};
+ghost use Rattle.message.specs.Words.{link_words, kind_of, rest_of, carries_three_bytes, carried_by, reference_word};
 ghost use Rattle.message.specs.Kinds.{number_of_kind};
 ghost use Rattle.message.specs.Fields.{parts_test, parts_value};
 
@@ -41,6 +41,14 @@ pub fn is_reference(w: u64) -> bool
     let index = x / 64;
     let count = x % 64;
     is_of(w, Kind::Reference) && index < 4096 && (1..=32).contains(&count)
+}
+
+// Whether the word carries three bytes of a literal. A long literal is read by this alone.
+#[tactic(auto, using(std::proofs::lemmas::Bool::Decides::nat_tests), unfolding(crate::specs::Words::carries_three_bytes, crate::specs::Words::many_of))]
+pub fn carries_three(w: u64) -> bool
+    ensures { result ≡ carries_three_bytes w }
+{
+    is_of(w, Kind::Bytes) && rest(w) / 16777216 == 3
 }
 
 // How many bytes of a literal the word carries, from 1 to 3, where those that it does not use are 0; and 0 for any other word.

@@ -43,12 +43,10 @@ pub fn decide(
 
 // Writes the new list into the shingle table: without the shingles that are gone, with the new ones, sorted, zero past its end.
 // The answer is the number of shingles. A table without room for them is refused and left as it is.
-pub fn renew(opening: Opening, shingles: &mut [u8]) -> Result<usize, Refusal>
-    ensures { Renewed opening.new opening.gone shingles.old shingles.new (answer_of result) }
+pub fn renew(opening: &Opening, shingles: &mut [u8]) -> Result<usize, Refusal>
+    ensures { Renewed opening.now.new opening.now.gone shingles.old shingles.new (answer_of result) }
 {
-    let new = opening.new;
-    let gone = opening.gone;
-    list::renew(&new, &gone, shingles)
+    list::renew(&opening.new, &opening.gone, shingles)
 }
 
 // Opens the sender's sketch over the own list: the shingle table then holds the new list, and the answer is its length. Where
@@ -62,6 +60,9 @@ pub fn open(
 ) -> Result<usize, Refusal>
     ensures { Opened levels width theirs.now own.now shingles.old shingles.new (answer_of result) }
 {
-    let opening = decide(levels, width, theirs, own, shingles)?;
-    renew(opening, shingles)
+    // By reference: what is taken is 9 KB, and a stack in firmware is short.
+    match &decide(levels, width, theirs, own, shingles) {
+        Ok(opening) => renew(opening, shingles),
+        Err(question) => Err(*question),
+    }
 }

@@ -1,8 +1,8 @@
 // A block whose cuts are sought, and the windows of bytes in it.
-ghost use Rattle.std.specs.Prelude.{◌≡◌, ◌+◌, ◌-◌, ◌%◌, ◌^◌, ◌≤◌, ◌<◌, max, length, get_or};
+ghost use Rattle.std.specs.Prelude.{◌≡◌, ◌+◌, ◌-◌, ◌^◌, ◌≤◌, ◌<◌, max, length, get_or};
 ghost use Rattle.spread.specs.Spreading.{spread_of, Spreads};
 ghost use Rattle.partition.specs.Cuts.{window_at};
-ghost use Rattle.partition.specs.Sliding.{leaving_of, Sized};
+ghost use Rattle.partition.specs.Sliding.{Sized};
 
 use super::sliding;
 
@@ -11,19 +11,17 @@ pub const BASE: u32 = 257;
 
 pub const PRIME: u32 = 65521;
 
-// The bytes, the table that each is replaced by, and how they are cut: a window has `width` bytes, a byte that it leaves is added `leaving`
-// times, its value is its number modulo `modulus`, values bar others up to `distance` away, and cuts lie before `end`.
+// The bytes, the table that each is replaced by, and how they are cut: a window has `width` bytes, its value is its number modulo `modulus`,
+// values bar others up to `distance` away, and cuts lie before `end`.
 #[derive(Clone, Copy)]
 pub struct Block<'a> {
     pub bytes: &'a [u8],
     pub table: &'a [u16; 256],
     pub width: usize,
-    pub leaving: u32,
     pub modulus: u32,
     pub distance: usize,
     pub end: usize,
     ghost spreads: { Spreads table.now },
-    ghost leaves: { leaving ≡ leaving_of width % 65521 },
     ghost reduces: { 1 ≤ modulus },
     ghost ends: { end ≡ length bytes.now + 1 - (width + distance) },
 }
@@ -48,7 +46,6 @@ impl<'a> Block<'a> {
             bytes,
             table,
             width: w,
-            leaving: sliding::leaving(w),
             modulus: sliding::modulus(s),
             distance: h,
             end: range_end(bytes.len(), w, h),

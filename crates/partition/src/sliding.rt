@@ -6,8 +6,8 @@ ghost use Rattle.partition.specs.Sliding.{leaving_of, slid, Modulus};
 use super::block::{BASE, Block, PRIME};
 
 // How often a byte that a window of w bytes leaves is added, modulo 65,521. The widths that document 01 allows have their numbers here, so
-// that a block takes one look-up and no loop.
-pub fn leaving(w: usize) -> u32
+// that a step takes one look-up and no loop.
+fn leaving(w: usize) -> u32
     ensures { result ≡ leaving_of w % 65521 }
 {
     match w {
@@ -48,19 +48,20 @@ pub fn modulus(s: u64) -> u32
     }
 }
 
-impl Block<'_> {
-    // One step of a window with the number x: the digit `old` leaves and the digit `new` enters. What leaves is reduced by itself, since it does
-    // not wait for x: a step then takes no longer than the way from one number to the next.
-    fn slide(&self, x: u32, old: u32, new: u32) -> u32
-        requires x_bound { x < 65521 }
-        requires bound { old < 65521 }
-        requires bound_2 { new < 65521 }
-        ensures { result ≡ slid self.now.width x old new }
-    {
-        let left = old * self.leaving % PRIME;
-        (x * BASE + new + left) % PRIME
-    }
+// One step of a window of w bytes with the number x: the digit `old` leaves and the digit `new` enters. It sees nothing else. What leaves is
+// reduced by itself, since it does not wait for x: a step then takes no longer than the way from one number to the next.
+fn slide(w: usize, x: u32, old: u32, new: u32) -> u32
+    requires x_bound { x < 65521 }
+    requires bound { old < 65521 }
+    requires bound_2 { new < 65521 }
+    ensures { result ≡ slid w x old new }
+{
+    let often = leaving(w);
+    let left = old * often % PRIME;
+    (x * BASE + new + left) % PRIME
+}
 
+impl Block<'_> {
     // The running value x of the window at j, one step on.
     pub fn next(&self, x: u32, j: usize) -> u32
         requires w_in_bounds { j + self.now.width < length self.now.bytes.now }
@@ -71,6 +72,6 @@ impl Block<'_> {
         let entering = j + self.width;
         let old = self.digit(j);
         let new = self.digit(entering);
-        self.slide(x, old, new)
+        slide(self.width, x, old, new)
     }
 }

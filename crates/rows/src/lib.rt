@@ -15,8 +15,17 @@ pub fn load(table: &[u8], k: usize) -> u64
     if table.len() / ROW <= k {
         return 0;
     }
-    let row = table[k * ROW..].first_chunk().unwrap();
-    u64::from_be_bytes(*row)
+    let i = k * ROW;
+    u64::from_be_bytes([
+        table[i],
+        table[i + 1],
+        table[i + 2],
+        table[i + 3],
+        table[i + 4],
+        table[i + 5],
+        table[i + 6],
+        table[i + 7],
+    ])
 }
 
 // Writes x into row k of the table. A table that has no such row is left as it is.

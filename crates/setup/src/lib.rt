@@ -19,7 +19,7 @@ pub struct Lent<'a> {
     pub cells: &'a [u8],
 }
 
-// Questions 1 to 7, of settings, of a string's length and of the lengths of lent tables: the number of the first that fails, or 0.
+// Questions 1 to 7, of settings, of a string's length and of the lengths of lent tables.
 pub fn question(
     settings: Settings,
     size: usize,
@@ -58,7 +58,7 @@ impl Lent<'_> {
 }
 
 // Cuts a string into its tree and fills the node table with it, the shingle table with the tree's shingles and the cell table with
-// their cells. Asked are 1 to 8: the answer is the number of the first that fails, or 2^32 and the number of nodes. A no at 1 to 7
+// their cells. Asked are 1 to 8, and the answer is the number of nodes. A no at 1 to 7
 // leaves the tables as they are, at 8 they are all zero, and after a yes they are zero past the last entry.
 pub fn fill_tables(
     settings: Settings,

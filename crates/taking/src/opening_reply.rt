@@ -46,9 +46,10 @@ pub fn take(
         cells,
         shingles,
     );
-    let opening = match judged {
+    // By reference: what the sketch opened to is 9 KB, and a stack in firmware is short.
+    let opening = match &judged {
         Ok(opening) => opening,
-        Err(question) => return end(state, question, output),
+        Err(question) => return end(state, *question, output),
     };
     let pile = rooted(said.root);
     let taken = advance(

@@ -18,7 +18,7 @@ use links::link;
 use rank::{chain, rank};
 use refusal::Refusal;
 use single::only;
-use table::size;
+use table::{balanced, size};
 use walk::{find, front};
 
 // Numbering answers this for every greater number.
@@ -70,6 +70,10 @@ pub fn order(pairs: Pairs, number: u64) -> Result<Trail, Refusal>
 {
     let sum = size(&pairs.count);
     if sum == 0 || 32 < sum || CAP <= number {
+        return Err(Refusal::Order);
+    }
+    // Nothing is linked where some id is left too often.
+    if !balanced(&pairs.previous, &pairs.own, &pairs.count) {
         return Err(Refusal::Order);
     }
     let k = sum as usize;

@@ -3,8 +3,6 @@ ghost use Rattle.std.specs.Prelude.{◌≡◌, false, min, ◌≤◌, eqb};
 ghost use Rattle.trail.specs.Trails.{tally, total};
 ghost use Rattle.trail.specs.Search.{Unbalanced};
 
-use crate::links::Table;
-
 // The sum of the counts, or 33 if it is more than 32.
 pub fn size(counts: &[u64; 32]) -> u64
     ensures { result ≡ min 33 (total counts.now) }
@@ -31,13 +29,13 @@ fn held(column: &[u64; 32], counts: &[u64; 32], id: u64) -> u64
 }
 
 // Whether no id is left more often than it is entered, 0 once more: a trail starts there.
-pub fn balanced(table: &Table, counts: &[u64; 32]) -> bool
+pub fn balanced(previous: &[u64; 32], own: &[u64; 32], counts: &[u64; 32]) -> bool
     requires { total counts.now ≤ 32 }
-    ensures { result ≡ false → Unbalanced table.now.previous table.now.own counts.now }
+    ensures { result ≡ false → Unbalanced previous.now own.now counts.now }
 {
-    for id in &table.previous {
-        let leaving = held(&table.previous, counts, *id);
-        let entering = held(&table.own, counts, *id);
+    for id in previous {
+        let leaving = held(previous, counts, *id);
+        let entering = held(own, counts, *id);
         if entering + u64::from(*id == 0) < leaving {
             return false;
         }

@@ -6,7 +6,7 @@ ghost use Rattle.trail.specs.Search.{Least, Answer, Following, led, trails_up_to
 
 use crate::links::{Table, leaving};
 use crate::reach::lost;
-use crate::table::{balanced, narrow};
+use crate::table::narrow;
 
 // Of the unused rows that leave v for an id from low to top, one with the least id.
 // `from` is the first row that leaves v.
@@ -22,8 +22,12 @@ fn least(table: &Table, counts: &[u8; 32], v: u64, from: usize, low: u64, top: u
     while row < 32 {
         let at = row;
         row = table.after[at];
+        // A row that is used up is passed over before its id is read: most are, deep in a search.
+        if counts[at] == 0 {
+            continue;
+        }
         let id = table.own[at];
-        if 0 < counts[at] && low <= id && id <= limit {
+        if low <= id && id <= limit {
             best = Some(at);
             limit = id;
         }
@@ -105,11 +109,8 @@ pub fn find(table: &Table, counts: &[u64; 32], k: usize, skip: u64) -> Result<[u
     requires few { k ≤ 32 }
     ensures { Answer (trails_over table.now.previous table.now.own counts.now) k skip table.now.own result }
 {
-    if balanced(table, counts) {
-        let from = leaving(&table.previous, 0, 0);
-        return search(table, narrow(counts), 0, from, u64::MAX, k, skip, true);
-    }
-    Err(skip)
+    let from = leaving(&table.previous, 0, 0);
+    search(table, narrow(counts), 0, from, u64::MAX, k, skip, true)
 }
 
 // The id that a row leads to; 0 if there is no such row.
