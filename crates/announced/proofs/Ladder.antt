@@ -34,6 +34,14 @@ module _ (σ : Settings) (rule : ℕ) (τ : Settings) (size room : ℕ) (message
   abbrev theirs : List ℕ
   theirs = cell_table message τ.width
 
+  pub other_settings : equal ≡ false → 12 ≡ refusal
+  unfolding announced_refusal ask
+  other_settings other = rw other refl
+
+  pub too_long : equal ≡ true → length_fits size room ≡ false → 13 ≡ refusal
+  unfolding announced_refusal ask
+  too_long same long = rw (same, long) refl
+
   pub early_no : (n : ℕ) → 0 < n → n ≡ ask equal 12 (ask (length_fits size room) 13 0) → n ≡ refusal
   unfolding announced_refusal
   early_no n more is = first_of equal (length_fits size room) _ n more is

@@ -180,11 +180,29 @@ threes_more ws at k t h e =
     record { low = omega arith; high = omega arith; count = omega (arith, more.0); after = t.after ∙ more.1 }
 
 -- What a word carries says which test holds.
+full_tests : (t3 t2 t1 : Bool) → 3 ≤ cond t3 3 (cond t2 2 (cond t1 1 0)) → t3 ≡ true
+full_tests true t2 t1 h = refl
+full_tests false true t1 h = absurd (omega arith)
+full_tests false false true h = absurd (omega arith)
+full_tests false false false h = absurd (omega arith)
+
+short_tests : (t3 t2 t1 : Bool) → cond t3 3 (cond t2 2 (cond t1 1 0)) < 3 → t3 ≡ false
+short_tests true t2 t1 h = absurd (omega arith)
+short_tests false t2 t1 h = refl
+
 most_tests : (t3 t2 t1 : Bool) → cond t3 3 (cond t2 2 (cond t1 1 0)) ≤ 3
 most_tests true t2 t1 = omega arith
 most_tests false true t1 = omega arith
 most_tests false false true = omega arith
 most_tests false false false = omega arith
+
+pub full_word : (w : ℕ) → 3 ≤ carried_by w → true ≡ carries_three_bytes w
+unfolding carried_by
+full_word w h = sym (full_tests (carries_three_bytes w) (carries_two_bytes w) (carries_one_byte w) h)
+
+pub short_word : (w : ℕ) → carried_by w < 3 → carries_three_bytes w ≡ false
+unfolding carried_by
+short_word w h = short_tests (carries_three_bytes w) (carries_two_bytes w) (carries_one_byte w) h
 
 pub carried_most : (w : ℕ) → carried_by w ≤ 3
 unfolding carried_by

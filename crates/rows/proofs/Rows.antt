@@ -86,6 +86,13 @@ module _ (t : List ℕ) (k : ℕ) (h : k * 8 + 8 ≤ length t) where
       before_row _ ∙ (ap (λ (n : ℕ). p ++ n ∷ q) {y = x} (omega arith)
       ∙ sym (ap (λ (ws : List ℕ). set ws k x) split_words ∙ set_at p _ q x k rows_before))
 
+  -- What is read from the eight bytes at the row's place.
+  pub read_row : (row : List ℕ) → row ≡ take 8 (drop (k * 8) t)
+      → get_or row 0 0 * 72057594037927936 + get_or row 1 0 * 281474976710656 + get_or row 2 0 * 1099511627776 + get_or row 3 0 * 4294967296
+      + get_or row 4 0 * 16777216 + get_or row 5 0 * 65536 + get_or row 6 0 * 256 + get_or row 7 0
+      ≡ get_or (words_of t) k 0
+  read_row row is = rw (is, eight_bytes t (k * 8) h, load_row) (omega arith)
+
   -- What is written over the eight bytes at the row's place.
   pub stored : (x n : ℕ) (row : List ℕ) → x < 2 ^ 64 → n ≡ 8 → row ≡ bytes_of x → Stored t (put_mid (k * 8) n t row) k x
   unfolding store_of
